@@ -1,0 +1,5 @@
+pub mod Numbers
+pub mod Writing
+pub mod Cutting
+pub mod Rows
+pub mod FirstRound
