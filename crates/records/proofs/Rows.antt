@@ -40,16 +40,21 @@ row-begins : (bytes : List ℕ) (at : ℕ) → row bytes at ≡ begin (cut bytes
 row-begins [] at = refl
 row-begins (b ∷ bs) at = refl
 
+-- the row where nothing is left, and where no record can be cut
+pub row-over : (bytes : List ℕ) (at : ℕ) → cut bytes at ≡ Ok None → row bytes at ≡ end at
+row-over bytes at e = row-begins bytes at ∙ ap (λ x. begin x at (λ skip. row-behind (drop 1 bytes) skip (at + 1))) e
+
+pub row-broken : (bytes : List ℕ) (at : ℕ) (f : Fault) → cut bytes at ≡ Err f → row bytes at ≡ broken f
+row-broken bytes at f e = row-begins bytes at ∙ ap (λ x. begin x at (λ skip. row-behind (drop 1 bytes) skip (at + 1))) e
+
 module _ (bytes lent : List ℕ) (at : ℕ) (same : lent ≡ bytes) where
   -- a reader at the end of the bytes
   pub row-ends : Ok None ≡ cut (drop at lent) at → row (drop at bytes) at ≡ end at
-  row-ends e =
-    ap (λ xs. row (drop at xs) at) (sym same) ∙ row-begins (drop at lent) at ∙ ap (λ x. begin x at (λ skip. row-behind (drop 1 (drop at lent)) skip (at + 1))) (sym e)
+  row-ends e = row-over (drop at bytes) at (ap (λ xs. cut (drop at xs) at) (sym same) ∙ sym e)
 
   -- a reader at a record that cannot be cut
   pub row-breaks : (f : Fault) → Err f ≡ cut (drop at lent) at → row (drop at bytes) at ≡ broken f
-  row-breaks f e =
-    ap (λ xs. row (drop at xs) at) (sym same) ∙ row-begins (drop at lent) at ∙ ap (λ x. begin x at (λ skip. row-behind (drop 1 (drop at lent)) skip (at + 1))) (sym e)
+  row-breaks f e = row-broken (drop at bytes) at f (ap (λ xs. cut (drop at xs) at) (sym same) ∙ sym e)
 
 -- A reader over `bytes` has cut r at `at`, and now stands at `to`.
 pub record Taken (bytes : List ℕ) (at : ℕ) (r : Record) (lent : List ℕ) (to : ℕ) : Type 0 where

@@ -3,3 +3,4 @@ pub mod Writing
 pub mod Cutting
 pub mod Rows
 pub mod FirstRound
+pub mod Sheets

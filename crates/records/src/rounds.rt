@@ -1,6 +1,7 @@
 // The first round of the check: the sheet is short enough, and its bytes are a row of whole records of known kinds.
 ghost use Prim.Native.Nat.{_+_, _<_};
 ghost use Rattle.records.specs.FirstRound.{first-round, counted, no-records, records-in};
+ghost use Rattle.records.specs.Sheets.{Read-in-one-way};
 ghost use mathlib.Core.Path.{_≡_};
 use crate::faults::{Cause, Fault};
 use crate::kinds::Record;
@@ -36,9 +37,16 @@ impl Tally {
     }
 }
 
-// What the sheet's records are, by sort, or the first fault.
+// The sheet's records, counted by sort, or the first fault. Accepted bytes are the writing of exactly one row of records.
 pub fn first_round(bytes: &[u8]) -> Result<Tally, Fault>
     ensures verdict { λ r. ⌜ r ≡ first-round (now (bytes .entry)) ⌝ }
+    ensures sheet { λ r. ⌜ Read-in-one-way (now (bytes .entry)) r ⌝ }
+{
+    cut_all(bytes)
+}
+
+fn cut_all(bytes: &[u8]) -> Result<Tally, Fault>
+    ensures { λ r. ⌜ r ≡ first-round (now (bytes .entry)) ⌝ }
 {
     if bytes.len() > SHEET_LIMIT {
         return Err(Fault { cause: Cause::TooLong, place: 0 });

@@ -1,22 +1,12 @@
-use mathlib.Core.Path.{_≡_, sym, _∙_, ap}
-use Prim.Native.Nat.{_+_, _≤_}
-use native.Mathlib.Omega.{arith}
-use lib.ListN.{drop}
-use Rattle.records.specs.Rows.{row}
-use Rattle.records.specs.FirstRound.{tallied, records-in}
-use Rattle.records.proofs.Positive.{size-positive}
-use Rattle.records.proofs.Rows.{Taken, taken}
-use Rattle.records.proofs.Tallies.{one-record-more}
+use mathlib.Core.Path.{sym, subst}
+use mir.Facts.{fits-lt-pow}
+use Rattle.records.specs.Sheets.{Read-in-one-way}
+use Rattle.records.proofs.OneWay.{read-in-one-way}
 use Rattle.records.proofs.rounds.first_round.Needs as need
 
-pub loop-next-again : need.loop-next-again
-loop-next-again c =
-  let n = c .in-Continue-next .ensures tt in
-  let q : Taken (c .args .bytes .now) (c .loop-next .reader .at) (c .in-Some .next) (c .next .last .self .bytes .now) (c .next .last .self .at) =
-    taken (c .loop-next .inv .0) (n .answer) (n .moves) (n .keeps) (c .next .last .self .inside) (c .in-Some .is) in
-  let moves = q .moves in
-  let positive = size-positive (c .in-Some .next) in
-  let more = ap records-in (c .count .ensures) ∙ one-record-more (c .loop-next .tally) (c .in-Some .next) in
-  (q .keeps, omega arith,
-    ap (tallied (row (drop (c .next .last .self .at) (c .args .bytes .now)) (c .next .last .self .at))) (c .count .ensures)
-      ∙ sym (ap (λ r. tallied r (c .loop-next .tally)) (q .opens)) ∙ c .loop-next .inv .2)
+pub returns : need.returns
+returns c =
+  record {
+    verdict = c .cut-all .ensures;
+    sheet = subst (Read-in-one-way (c .args .bytes .now)) (sym (c .cut-all .ensures)) (read-in-one-way (c .args .bytes .now) (λ i. fits-lt-pow (c .typed .bytes i)))
+  }

@@ -4,7 +4,7 @@ use mathlib.Core.Path.{_≡_}
 use lib.ListN.{drop, length}
 use Rattle.records.specs.Rows.{row}
 use Rattle.records.specs.FirstRound.{tallied, no-records, records-in}
-use Rattle.records.proofs.rounds.first_round.Given as given
+use Rattle.records.proofs.rounds.cut_all.Given as given
 
 abbrev pub Inv-loop-next : given.InvT-loop-next
 Inv-loop-next l =

@@ -1,0 +1,59 @@
+-- What the first round says of a sheet, in terms of writing alone: its bytes are the writing of exactly one row of records,
+-- or of some records and then of bytes that begin none. Nothing here speaks of how a record is cut.
+use mathlib.Core.Path.{_≡_}
+use mathlib.Core.List.{List, [], _∷_, _++_}
+use Prim.Native.Nat.{ℕ, _≤_, _<_}
+use lib.ListN.{length, getD}
+use Rattle.std.specs.declared.result.Result.{Result}
+use Rattle.std.specs.declared.result.Result.the-variants.{Ok, Err}
+use Rattle.records.specs.declared.faults.Cause.{Cause}
+use Rattle.records.specs.declared.faults.Cause.the-variants.{TooLong, UnknownKind, CutShort}
+use Rattle.records.specs.declared.faults.Fault.{Fault}
+use Rattle.records.specs.declared.kinds.Record.{Record}
+use Rattle.records.specs.declared.rounds.Tally.{Tally}
+use Rattle.records.specs.Writing.{written, writing, size}
+use Rattle.records.specs.FirstRound.{counted, no-records}
+
+-- each number is a byte
+abbrev pub Bytes : List ℕ → Type 0
+Bytes xs = (i : ℕ) → getD xs i 0 < 256
+
+-- each field of the record has a number that fits it
+pub record Writable (r : Record) : Type 0 where
+  pub sized : length (written r) ≡ size r
+  pub bytes : Bytes (written r)
+
+pub data All-writable : List Record → Type 0 where
+  no-record : All-writable []
+  one-more : {r : Record} {rs : List Record} → Writable r → All-writable rs → All-writable (r ∷ rs)
+
+-- how many records of each sort there are, beside those of t
+abbrev pub tally : Tally → List Record → Tally
+tally t [] = t
+tally t (r ∷ rs) = tally (counted t r) rs
+
+-- the sheet is the writing of these records, and of no others
+pub record Whole (sheet : List ℕ) (t : Tally) : Type 0 where
+  pub short : length sheet ≤ 4096
+  pub records : List Record
+  pub writable : All-writable records
+  pub is : writing records ≡ sheet
+  pub only : (others : List Record) → All-writable others → writing others ≡ sheet → others ≡ records
+  pub counts : t ≡ tally no-records records
+
+-- why these bytes begin no record: their kind byte is that of none, or more bytes would have to follow
+abbrev pub Begins-none : Cause → ℕ → List ℕ → Type 0
+Begins-none UnknownKind kind rest = (r : Record) (body : List ℕ) → Writable r → written r ≡ kind ∷ body → ⊥
+Begins-none CutShort kind rest = (r : Record) × (more : List ℕ) × Writable r × (0 < length more) × (written r ≡ kind ∷ (rest ++ more))
+Begins-none TooLong kind rest = ⊥
+
+-- the sheet is too long, or begins with these records and then with bytes that begin none
+pub data Refused (sheet : List ℕ) : Fault → Type 0 where
+  too-long : 4096 < length sheet → Refused sheet (record { cause = TooLong; place = 0 })
+  breaks-off : {cause : Cause} (records : List Record) (kind : ℕ) (rest : List ℕ) → length sheet ≤ 4096 → All-writable records →
+    writing records ++ kind ∷ rest ≡ sheet → Begins-none cause kind rest →
+    Refused sheet (record { cause = cause; place = length (writing records) })
+
+abbrev pub Read-in-one-way : List ℕ → Result Tally Fault → Type 0
+Read-in-one-way sheet (Ok t) = Whole sheet t
+Read-in-one-way sheet (Err f) = Refused sheet f
