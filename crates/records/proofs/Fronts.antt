@@ -8,7 +8,7 @@ use lib.Dec.{lit<}
 use lib.ListN.{length, drop, getD, replicate}
 use lib.Seq.{drop-cons}
 use Rattle.records.specs.Cutting.{byte}
-use Rattle.records.specs.Sheets.{Bytes}
+use Rattle.records.specs.Inverse.{Bytes}
 
 -- the n bytes from i on
 abbrev pub front : ℕ → ℕ → List ℕ → List ℕ
@@ -22,9 +22,9 @@ length-front i (suc n) xs = ap suc (length-front (i + 1) n xs)
 pub front-then-drop : (i n : ℕ) (xs : List ℕ) → i + n ≤ length xs → drop i xs ≡ front i n xs ++ drop (i + n) xs
 front-then-drop i zero xs fits = ap (λ k. drop k xs) (sym (add-zero i))
 front-then-drop i (suc n) xs fits =
-  let one : i + 1 ≡ suc i = omega arith in
-  let more : i + 1 + n ≡ i + suc n = omega arith in
-  drop-cons xs i 0 (omega arith)
+    let one : i + 1 ≡ suc i = omega arith in
+    let more : i + 1 + n ≡ i + suc n = omega arith in
+    drop-cons xs i 0 (omega arith)
     ∙ ap (λ r. byte xs i ∷ r) (ap (λ k. drop k xs) (sym one) ∙ front-then-drop (i + 1) n xs (omega arith) ∙ ap (λ k. front (i + 1) n xs ++ drop k xs) more)
 
 bytes-cons : (x : ℕ) (xs : List ℕ) → x < 256 → Bytes xs → Bytes (x ∷ xs)

@@ -22,7 +22,8 @@ use Rattle.records.specs.Writing.{written, writing, size}
 use Rattle.records.specs.Cutting.{Cutting, cut}
 use Rattle.records.specs.Rows.{Row, next, end, broken, row}
 use Rattle.records.specs.FirstRound.{no-records, tallied, first-round}
-use Rattle.records.specs.Sheets.{Bytes, Writable, All-writable, tally, Whole, Begins-none, Refused, too-long, breaks-off, Read-in-one-way}
+use Rattle.records.specs.Inverse.{Bytes, Writable}
+use Rattle.records.specs.Sheets.{All-writable, tally, Whole, Begins-none, Refused, too-long, breaks-off, Read-in-one-way}
 use Rattle.records.proofs.Fronts.{bytes-append, bytes-drop, bytes-zeros}
 use Rattle.records.proofs.Known.{Layout, Unknown, known}
 use Rattle.records.proofs.ReadBack.{reads-back, laid-out, short, whole-or-short}
@@ -48,87 +49,87 @@ one-way rs qs ws vs e = sym (listed-writing qs vs) ∙ ap (λ xs. listed (row xs
 -- what is read of a sheet, by its split
 read : (sheet : List ℕ) (s : Split sheet 0) → tallied (row sheet 0) no-records ≡ tallied (row (s .rest) (0 + length (writing (s .records)))) (tally no-records (s .records))
 read sheet s =
-  ap (λ xs. tallied (row xs 0) no-records) (sym (s .is))
+    ap (λ xs. tallied (row xs 0) no-records) (sym (s .is))
     ∙ ap (λ r. tallied r no-records) (row-of-writing (s .records) (s .writable) (s .rest) 0)
     ∙ tallied-along (s .records) (s .writable) 0 (row (s .rest)) no-records
 
 -- too few bytes of a known kind: zeros complete them
 completes : (kind : ℕ) (layout : Layout kind) (rest : List ℕ) → Bytes (kind ∷ rest) → length (kind ∷ rest) < layout .long → Begins-none CutShort kind rest
 completes kind layout rest b less =
-  let n : ℕ = layout .long - length (kind ∷ rest) in
-  let more : List ℕ = replicate n 0 in
-  let all : List ℕ = kind ∷ (rest ++ more) in
-  let zeros : length more ≡ n = length-replicate n 0 in
-  let joined : length (rest ++ more) ≡ length rest + length more = length-append rest more in
-  let long : length all ≡ layout .long = omega arith in
-  let r : Record = layout .of all in
-  let s : size r ≡ layout .long = layout .sized all in
-  let front = laid-out kind layout (rest ++ more) (bytes-append (kind ∷ rest) more b (bytes-zeros n)) (omega arith) in
-  let none : drop (size r) all ≡ [] = ap (λ k. drop k all) (s ∙ sym long) ∙ drop-length all in
-  (r, more, front .writable, omega arith, sym (front .is ∙ ap (λ ys. written r ++ ys) none ∙ append-nil (written r)))
+    let n : ℕ = layout .long - length (kind ∷ rest) in
+    let more : List ℕ = replicate n 0 in
+    let all : List ℕ = kind ∷ (rest ++ more) in
+    let zeros : length more ≡ n = length-replicate n 0 in
+    let joined : length (rest ++ more) ≡ length rest + length more = length-append rest more in
+    let long : length all ≡ layout .long = omega arith in
+    let r : Record = layout .of all in
+    let s : size r ≡ layout .long = layout .sized all in
+    let front = laid-out kind layout (rest ++ more) (bytes-append (kind ∷ rest) more b (bytes-zeros n)) (omega arith) in
+    let none : drop (size r) all ≡ [] = ap (λ k. drop k all) (s ∙ sym long) ∙ drop-length all in
+    (r, more, front .writable, omega arith, sym (front .is ∙ ap (λ ys. written r ++ ys) none ∙ append-nil (written r)))
 
 -- a kind byte that cuts to nothing is that of no record
 stranger : (kind : ℕ) (rest : List ℕ) → Unknown kind → Begins-none UnknownKind kind rest
 stranger kind rest unknown r body w e =
-  let back = sym (ap (λ xs. cut (xs ++ []) 0) e) ∙ reads-back r w [] 0 in
-  let u = sym (unknown (body ++ []) 0) ∙ back in
-  let z : _≡_ {A = ℕ} 0 1 = cc in omega arith
+    let back = sym (ap (λ xs. cut (xs ++ []) 0) e) ∙ reads-back r w [] 0 in
+    let u = sym (unknown (body ++ []) 0) ∙ back in
+    let z : _≡_ {A = ℕ} 0 1 = cc in omega arith
 
 -- why the cut fails
 fails : (kind : ℕ) (rest : List ℕ) (at : ℕ) (f : Fault) → Bytes (kind ∷ rest) → cut (kind ∷ rest) at ≡ Err f → (f .place ≡ at) × Begins-none (f .cause) kind rest
 fails kind rest at f b e =
-  ⊎-elim
+    ⊎-elim
     (λ layout.
-      let r = layout .of (kind ∷ rest) in
-      let c = sym e ∙ layout .cuts rest at in
-      let s : size r ≡ layout .long = layout .sized (kind ∷ rest) in
-      ⊎-elim
-        (λ w. let g = c ∙ w .1 in let z : _≡_ {A = ℕ} 0 1 = cc in absurd (omega arith))
-        (λ l.
-          let g = c ∙ l .1 in
-          let less = l .0 in
-          let same : f ≡ record { cause = CutShort; place = at } = cc in
-          (ap (λ (x : Fault). x .place) same, subst (λ (x : Fault). Begins-none (x .cause) kind rest) (sym same) (completes kind layout rest b (omega arith))))
-        (whole-or-short (kind ∷ rest) at r))
+    let r = layout .of (kind ∷ rest) in
+    let c = sym e ∙ layout .cuts rest at in
+    let s : size r ≡ layout .long = layout .sized (kind ∷ rest) in
+    ⊎-elim
+    (λ w. let g = c ∙ w .1 in let z : _≡_ {A = ℕ} 0 1 = cc in absurd (omega arith))
+    (λ l.
+    let g = c ∙ l .1 in
+    let less = l .0 in
+    let same : f ≡ record { cause = CutShort; place = at } = cc in
+    (ap (λ (x : Fault). x .place) same, subst (λ (x : Fault). Begins-none (x .cause) kind rest) (sym same) (completes kind layout rest b (omega arith))))
+    (whole-or-short (kind ∷ rest) at r))
     (λ unknown.
-      let g = sym e ∙ unknown rest at in
-      let same : f ≡ record { cause = UnknownKind; place = at } = cc in
-      (ap (λ (x : Fault). x .place) same, subst (λ (x : Fault). Begins-none (x .cause) kind rest) (sym same) (stranger kind rest unknown)))
+    let g = sym e ∙ unknown rest at in
+    let same : f ≡ record { cause = UnknownKind; place = at } = cc in
+    (ap (λ (x : Fault). x .place) same, subst (λ (x : Fault). Begins-none (x .cause) kind rest) (sym same) (stranger kind rest unknown)))
     (known kind)
 
 refuses : (sheet : List ℕ) (rs : List Record) (rest : List ℕ) (f : Fault) → Bytes sheet → length sheet ≤ 4096 → All-writable rs → writing rs ++ rest ≡ sheet →
-  cut rest (0 + length (writing rs)) ≡ Err f → Refused sheet f
+    cut rest (0 + length (writing rs)) ≡ Err f → Refused sheet f
 refuses sheet rs [] f b fits ws is e = let z : _≡_ {A = ℕ} 0 1 = cc in absurd (omega arith)
 refuses sheet rs (kind ∷ rest) f b fits ws is e =
-  let behind : Bytes (kind ∷ rest) = subst Bytes (ap (drop (length (writing rs))) (sym is) ∙ drop-append-seam (writing rs) (kind ∷ rest)) (bytes-drop (length (writing rs)) sheet b) in
-  let why = fails kind rest (0 + length (writing rs)) f behind e in
-  let place : length (writing rs) ≡ f .place = sym (why .0 ∙ zero-add (length (writing rs))) in
-  subst (λ p. Refused sheet (record { cause = f .cause; place = p })) place (breaks-off rs kind rest fits ws is (why .1))
+    let behind : Bytes (kind ∷ rest) = subst Bytes (ap (drop (length (writing rs))) (sym is) ∙ drop-append-seam (writing rs) (kind ∷ rest)) (bytes-drop (length (writing rs)) sheet b) in
+    let why = fails kind rest (0 + length (writing rs)) f behind e in
+    let place : length (writing rs) ≡ f .place = sym (why .0 ∙ zero-add (length (writing rs))) in
+    subst (λ p. Refused sheet (record { cause = f .cause; place = p })) place (breaks-off rs kind rest fits ws is (why .1))
 
 accepts : (sheet : List ℕ) (rs : List Record) → length sheet ≤ 4096 → All-writable rs → writing rs ≡ sheet → Whole sheet (tally no-records rs)
 accepts sheet rs fits ws is =
-  record { short = fits; records = rs; writable = ws; is = is; only = λ qs vs e. one-way rs qs ws vs (e ∙ sym is); counts = refl }
+    record { short = fits; records = rs; writable = ws; is = is; only = λ qs vs e. one-way rs qs ws vs (e ∙ sym is); counts = refl }
 
 by-split : (sheet : List ℕ) (s : Split sheet 0) → Bytes sheet → length sheet ≤ 4096 → Read-in-one-way sheet (tallied (row sheet 0) no-records)
 by-split sheet s b fits =
-  let rs = s .records in
-  let at = 0 + length (writing rs) in
-  ⊎-elim
+    let rs = s .records in
+    let at = 0 + length (writing rs) in
+    ⊎-elim
     (λ none.
-      let found = read sheet s ∙ ap (λ xs. tallied (row xs at) (tally no-records rs)) none in
-      let is = sym (append-nil (writing rs)) ∙ ap (λ xs. writing rs ++ xs) (sym none) ∙ s .is in
-      subst (Read-in-one-way sheet) (sym found) (accepts sheet rs fits (s .writable) is))
+    let found = read sheet s ∙ ap (λ xs. tallied (row xs at) (tally no-records rs)) none in
+    let is = sym (append-nil (writing rs)) ∙ ap (λ xs. writing rs ++ xs) (sym none) ∙ s .is in
+    subst (Read-in-one-way sheet) (sym found) (accepts sheet rs fits (s .writable) is))
     (λ breaks.
-      let f = breaks .0 in
-      let found = read sheet s ∙ ap (λ r. tallied r (tally no-records rs)) (row-broken (s .rest) at f (breaks .1)) in
-      subst (Read-in-one-way sheet) (sym found) (refuses sheet rs (s .rest) f b fits (s .writable) (s .is) (breaks .1)))
+    let f = breaks .0 in
+    let found = read sheet s ∙ ap (λ r. tallied r (tally no-records rs)) (row-broken (s .rest) at f (breaks .1)) in
+    subst (Read-in-one-way sheet) (sym found) (refuses sheet rs (s .rest) f b fits (s .writable) (s .is) (breaks .1)))
     (s .stops)
 
 pub read-in-one-way : (sheet : List ℕ) → Bytes sheet → Read-in-one-way sheet (first-round sheet)
 read-in-one-way sheet b =
-  ⊎-elim
+    ⊎-elim
     (λ long. subst (Read-in-one-way sheet) (sym (cond-true (ltb 4096 (length sheet)) _ _ long)) (too-long (ltb-true 4096 (length sheet) long)))
     (λ short.
-      subst (Read-in-one-way sheet) (sym (cond-false (ltb 4096 (length sheet)) _ _ short))
-        (by-split sheet (split (length sheet) sheet 0 (omega arith) b) b (ltb-false 4096 (length sheet) short)))
+    subst (Read-in-one-way sheet) (sym (cond-false (ltb 4096 (length sheet)) _ _ short))
+    (by-split sheet (split (length sheet) sheet 0 (omega arith) b) b (ltb-false 4096 (length sheet) short)))
     (cases-bool (ltb 4096 (length sheet)))

@@ -31,9 +31,9 @@ row-passes (b ∷ bs) (suc skip) at fits = row-passes bs skip (at + 1) (omega ar
 pub row-of-cut : (bytes : List ℕ) (at : ℕ) (r : Record) → cut bytes at ≡ Ok (Some r) → size r ≤ length bytes → row bytes at ≡ next at r (row (drop (size r) bytes) (at + size r))
 row-of-cut [] at r e fits = let z : _≡_ {A = ℕ} 0 1 = cc in absurd (omega arith)
 row-of-cut (b ∷ bs) at r e fits =
-  let positive : 0 < size r = size-positive r in
-  let whole : at + 1 + (size r - 1) ≡ at + size r = omega arith in
-  ap (λ x. begin x at (λ skip. row-behind bs skip (at + 1))) e
+    let positive : 0 < size r = size-positive r in
+    let whole : at + 1 + (size r - 1) ≡ at + size r = omega arith in
+    ap (λ x. begin x at (λ skip. row-behind bs skip (at + 1))) e
     ∙ ap (next at r) (row-passes bs (size r - 1) (at + 1) (omega arith) ∙ ap (λ a. row (drop (size r - 1) bs) a) whole ∙ ap (λ xs. row xs (at + size r)) (drop-rest b bs (size r) positive))
 
 row-begins : (bytes : List ℕ) (at : ℕ) → row bytes at ≡ begin (cut bytes at) at (λ skip. row-behind (drop 1 bytes) skip (at + 1))
@@ -65,16 +65,16 @@ pub record Taken (bytes : List ℕ) (at : ℕ) (r : Record) (lent : List ℕ) (t
 
 -- what the contract of `Reader::next` says where it answers a record
 pub taken : {bytes before lent : List ℕ} {at to : ℕ} {o : Option Record} {r : Record}
-  → before ≡ bytes → Ok o ≡ cut (drop at before) at → to ≡ at + moved (Ok o) → lent ≡ before → to ≤ length lent → o ≡ Some r
-  → Taken bytes at r lent to
+    → before ≡ bytes → Ok o ≡ cut (drop at before) at → to ≡ at + moved (Ok o) → lent ≡ before → to ≤ length lent → o ≡ Some r
+    → Taken bytes at r lent to
 taken {bytes} {before} {lent} {at} {to} {o} {r} same answer moves keeps inside is =
-  let m : to ≡ at + size r = moves ∙ ap (λ (x : Option Record). at + moved (Ok x)) is in
-  let k : lent ≡ bytes = keeps ∙ same in
-  let l = ap length k in
-  let c : cut (drop at bytes) at ≡ Ok (Some r) = sym (ap (λ xs. cut (drop at xs) at) same) ∙ sym answer ∙ ap {B = Cutting} (λ (x : Option Record). Ok x) is in
-  record {
-    opens = row-of-cut (drop at bytes) at r c (simp length-drop (omega arith)) ∙ ap (λ xs. next at r (row xs (at + size r))) (drop-drop (size r) at bytes) ∙ ap (λ e. next at r (row (drop e bytes) e)) (sym m);
-    moves = m;
-    keeps = k;
-    fits = omega arith
-  }
+    let m : to ≡ at + size r = moves ∙ ap (λ (x : Option Record). at + moved (Ok x)) is in
+    let k : lent ≡ bytes = keeps ∙ same in
+    let l = ap length k in
+    let c : cut (drop at bytes) at ≡ Ok (Some r) = sym (ap (λ xs. cut (drop at xs) at) same) ∙ sym answer ∙ ap {B = Cutting} (λ (x : Option Record). Ok x) is in
+    record {
+      opens = row-of-cut (drop at bytes) at r c (simp length-drop (omega arith)) ∙ ap (λ xs. next at r (row xs (at + size r))) (drop-drop (size r) at bytes) ∙ ap (λ e. next at r (row (drop e bytes) e)) (sym m);
+      moves = m;
+      keeps = k;
+      fits = omega arith;
+    }

@@ -46,17 +46,17 @@ bytes-at bytes i = byte bytes i ∷ (byte bytes (i + 1) ∷ (byte bytes (i + 2) 
 -- the record that begins with this kind byte; `xs` is all the bytes, the kind byte first
 abbrev pub cut-kind : ℕ → List ℕ → ℕ → Cutting
 cut-kind kind xs place =
-  cond (eqb kind 0x11) (whole xs place (ListType (record { element = byte xs 1; amount = two-at xs 2 })))
-  (cond (eqb kind 0x20) (whole xs place (Function (record { count = byte xs 1; params = bytes-at xs 2; result = byte xs 6; entry = two-at xs 7; remainder = two-at xs 9 })))
-  (cond (eqb kind 0x30) (whole xs place (Step (Const (byte xs 1) (four-at xs 2))))
-  (cond (eqb kind 0x31) (whole xs place (Step (Arith (byte xs 1) (byte xs 2) (byte xs 3) (byte xs 4))))
-  (cond (eqb kind 0x32) (whole xs place (Step (Empty (byte xs 1) (byte xs 2))))
-  (cond (eqb kind 0x33) (whole xs place (Step (Cons (byte xs 1) (byte xs 2) (byte xs 3) (byte xs 4))))
-  (cond (eqb kind 0x35) (whole xs place (Step (Call (byte xs 1) (byte xs 2) (bytes-at xs 3))))
-  (cond (eqb kind 0x40) (whole xs place (Step (Return (byte xs 1))))
-  (cond (eqb kind 0x41) (whole xs place (Step (Match (byte xs 1) (byte xs 2) (byte xs 3) (two-at xs 4))))
-  (cond (eqb kind 0x43) (whole xs place (Step (If (byte xs 1) (two-at xs 2))))
-  (Err (record { cause = UnknownKind; place = place })))))))))))
+    cond (eqb kind 0x11) (whole xs place (ListType (record { element = byte xs 1; amount = two-at xs 2 })))
+    (cond (eqb kind 0x20) (whole xs place (Function (record { count = byte xs 1; params = bytes-at xs 2; result = byte xs 6; entry = two-at xs 7; remainder = two-at xs 9 })))
+    (cond (eqb kind 0x30) (whole xs place (Step (Const (byte xs 1) (four-at xs 2))))
+    (cond (eqb kind 0x31) (whole xs place (Step (Arith (byte xs 1) (byte xs 2) (byte xs 3) (byte xs 4))))
+    (cond (eqb kind 0x32) (whole xs place (Step (Empty (byte xs 1) (byte xs 2))))
+    (cond (eqb kind 0x33) (whole xs place (Step (Cons (byte xs 1) (byte xs 2) (byte xs 3) (byte xs 4))))
+    (cond (eqb kind 0x35) (whole xs place (Step (Call (byte xs 1) (byte xs 2) (bytes-at xs 3))))
+    (cond (eqb kind 0x40) (whole xs place (Step (Return (byte xs 1))))
+    (cond (eqb kind 0x41) (whole xs place (Step (Match (byte xs 1) (byte xs 2) (byte xs 3) (two-at xs 4))))
+    (cond (eqb kind 0x43) (whole xs place (Step (If (byte xs 1) (two-at xs 2))))
+    (Err (record { cause = UnknownKind; place = place })))))))))))
 
 -- what stands at the front of the bytes, which begin at this place in the sheet
 abbrev pub cut : List ℕ → ℕ → Cutting

@@ -3,7 +3,7 @@
 use mathlib.Core.Path.{_≡_}
 use mathlib.Core.List.{List, [], _∷_, _++_}
 use Prim.Native.Nat.{ℕ, _≤_, _<_}
-use lib.ListN.{length, getD}
+use lib.ListN.{length}
 use Rattle.std.specs.declared.result.Result.{Result}
 use Rattle.std.specs.declared.result.Result.the-variants.{Ok, Err}
 use Rattle.records.specs.declared.faults.Cause.{Cause}
@@ -11,17 +11,9 @@ use Rattle.records.specs.declared.faults.Cause.the-variants.{TooLong, UnknownK
 use Rattle.records.specs.declared.faults.Fault.{Fault}
 use Rattle.records.specs.declared.kinds.Record.{Record}
 use Rattle.records.specs.declared.rounds.Tally.{Tally}
-use Rattle.records.specs.Writing.{written, writing, size}
+use Rattle.records.specs.Writing.{written, writing}
+use Rattle.records.specs.Inverse.{Writable}
 use Rattle.records.specs.FirstRound.{counted, no-records}
-
--- each number is a byte
-abbrev pub Bytes : List ℕ → Type 0
-Bytes xs = (i : ℕ) → getD xs i 0 < 256
-
--- each field of the record has a number that fits it
-pub record Writable (r : Record) : Type 0 where
-  pub sized : length (written r) ≡ size r
-  pub bytes : Bytes (written r)
 
 pub data All-writable : List Record → Type 0 where
   no-record : All-writable []
@@ -51,8 +43,8 @@ Begins-none TooLong kind rest = ⊥
 pub data Refused (sheet : List ℕ) : Fault → Type 0 where
   too-long : 4096 < length sheet → Refused sheet (record { cause = TooLong; place = 0 })
   breaks-off : {cause : Cause} (records : List Record) (kind : ℕ) (rest : List ℕ) → length sheet ≤ 4096 → All-writable records →
-    writing records ++ kind ∷ rest ≡ sheet → Begins-none cause kind rest →
-    Refused sheet (record { cause = cause; place = length (writing records) })
+      writing records ++ kind ∷ rest ≡ sheet → Begins-none cause kind rest →
+      Refused sheet (record { cause = cause; place = length (writing records) })
 
 abbrev pub Read-in-one-way : List ℕ → Result Tally Fault → Type 0
 Read-in-one-way sheet (Ok t) = Whole sheet t

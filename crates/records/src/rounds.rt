@@ -3,7 +3,8 @@ ghost use Prim.Native.Nat.{_+_, _<_};
 ghost use Rattle.records.specs.FirstRound.{first-round, counted, no-records, records-in};
 ghost use Rattle.records.specs.Sheets.{Read-in-one-way};
 ghost use mathlib.Core.Path.{_≡_};
-use crate::faults::{Cause, Fault};
+use crate::faults::Cause;
+use crate::faults::Fault;
 use crate::kinds::Record;
 use crate::reading::Reader;
 
@@ -22,7 +23,11 @@ impl Tally {
     fn none() -> Self
         ensures { λ r. ⌜ r ≡ no-records ⌝ }
     {
-        Tally { types: 0, functions: 0, steps: 0 }
+        Tally {
+            types: 0,
+            functions: 0,
+            steps: 0,
+        }
     }
 
     fn count(&mut self, next: &Record)
@@ -49,7 +54,10 @@ fn cut_all(bytes: &[u8]) -> Result<Tally, Fault>
     ensures { λ r. ⌜ r ≡ first-round (now (bytes .entry)) ⌝ }
 {
     if bytes.len() > SHEET_LIMIT {
-        return Err(Fault { cause: Cause::TooLong, place: 0 });
+        return Err(Fault {
+            cause: Cause::TooLong,
+            place: 0,
+        });
     }
     let mut reader = Reader::new(bytes);
     let mut tally = Tally::none();

@@ -1,7 +1,8 @@
 // How many bytes each record takes, its kind byte included.
 ghost use Rattle.records.specs.Writing.{size, step-size};
 ghost use mathlib.Core.Path.{_≡_};
-use crate::kinds::{Record, Step};
+use crate::kinds::Record;
+use crate::kinds::Step;
 
 impl Step {
     pub fn size(&self) -> usize

@@ -8,8 +8,8 @@ use Rattle.records.proofs.rounds.cut_all.Given as given
 
 abbrev pub Inv-loop-next : given.InvT-loop-next
 Inv-loop-next l =
-  (l .reader .bytes .now ≡ l .bytes) × (records-in (l .tally) ≤ l .reader .at)
-  × (tallied (row (drop (l .reader .at) (l .bytes)) (l .reader .at)) (l .tally) ≡ tallied (row (l .bytes) 0) no-records)
+    (l .reader .bytes .now ≡ l .bytes) × (records-in (l .tally) ≤ l .reader .at)
+    × (tallied (row (drop (l .reader .at) (l .bytes)) (l .reader .at)) (l .tally) ≡ tallied (row (l .bytes) 0) no-records)
 
 abbrev pub μ-loop-next : given.MeasureT-loop-next
 μ-loop-next l = length (l .bytes) - l .reader .at

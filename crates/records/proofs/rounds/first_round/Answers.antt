@@ -6,7 +6,7 @@ use Rattle.records.proofs.rounds.first_round.Needs as need
 
 pub returns : need.returns
 returns c =
-  record {
-    verdict = c .cut-all .ensures;
-    sheet = subst (Read-in-one-way (c .args .bytes .now)) (sym (c .cut-all .ensures)) (read-in-one-way (c .args .bytes .now) (λ i. fits-lt-pow (c .typed .bytes i)))
-  }
+    record {
+      verdict = c .cut-all .ensures;
+      sheet = subst (Read-in-one-way (c .args .bytes .now)) (sym (c .cut-all .ensures)) (read-in-one-way (c .args .bytes .now) (λ i. fits-lt-pow (c .typed .bytes i)));
+    }
