@@ -1,2 +1,5 @@
 mod Texts
 mod Lines
+mod Readings
+mod Grammar
+mod Spelling

@@ -1,2 +1,4 @@
 pub mod Words
 pub mod Listing
+pub mod Hexes
+pub mod Parsed

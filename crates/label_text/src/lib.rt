@@ -1,8 +1,13 @@
 // Text in and out of the label program: sheets as hexadecimal text, and records, counts and refusals in words. Rests on
 // `records`.
+mod hexes;
 mod listing;
 mod words;
 
+pub use hexes::HexFault;
+pub use hexes::Spot;
+pub use hexes::TextFault;
+pub use hexes::parse_hex;
 pub use listing::Listing;
 pub use listing::list;
 pub use listing::refusal_line;
