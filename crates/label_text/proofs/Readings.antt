@@ -12,7 +12,7 @@ use Rattle.std.specs.declared.result.Result.{Result}
 use Rattle.std.specs.declared.result.Result.the-variants.{Ok, Err}
 use Rattle.label_text.specs.declared.hexes.Spot.{Spot}
 use Rattle.label_text.specs.declared.hexes.TextFault.{TextFault}
-use Rattle.label_text.specs.declared.hexes.TextFault.the-variants.{NotHexadecimal, HalfByte}
+use Rattle.label_text.specs.declared.hexes.Slip.the-variants.{NotHexadecimal, HalfByte}
 use Rattle.label_text.specs.declared.hexes.Mode.{Mode}
 use Rattle.label_text.specs.declared.hexes.Mode.the-variants.{Between, Half, Comment}
 use Rattle.label_text.specs.declared.hexes.Turn.{Turn}
@@ -50,10 +50,10 @@ module _ (text bs : List ℕ) (m : Mode) (s : Spot) (i : ℕ) (whole : Answer) (
   pub gives-byte : (b : ℕ) → Gives b ≡ turn m here → with-bytes (bs ++ b ∷ []) (read-on Between (behind s here) (drop (i + 1) text)) ≡ whole
   gives-byte b e = sym (with-bytes-byte bs b (read-on Between (behind s here) (drop (i + 1) text))) ∙ by-turn (Gives b) e
 
-  pub is-strange : Strange ≡ turn m here → Err (NotHexadecimal s) ≡ whole
+  pub is-strange : Strange ≡ turn m here → Err (record { slip = NotHexadecimal; spot = s }) ≡ whole
   is-strange e = by-turn Strange e
 
-  pub is-missing : Missing ≡ turn m here → Err (HalfByte s) ≡ whole
+  pub is-missing : Missing ≡ turn m here → Err (record { slip = HalfByte; spot = s }) ≡ whole
   is-missing e = by-turn Missing e
 
 behind-by : (b : Bool) (s t : Spot) (n : ℕ) → s .line ≤ n → s .column ≤ n → t .line ≤ n → t .column ≤ n → (cond b s t .line ≤ n) × (cond b s t .column ≤ n)

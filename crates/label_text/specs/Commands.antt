@@ -8,9 +8,9 @@ use Rattle.std.specs.declared.option.Option.the-variants.{Some, None}
 use Rattle.std.specs.Written.{decimal}
 use Rattle.label_text.specs.declared.commands.Verb.{Verb}
 use Rattle.label_text.specs.declared.commands.Verb.the-variants.{List as Listing}
-use Rattle.label_text.specs.declared.hexes.Spot.{Spot}
 use Rattle.label_text.specs.declared.hexes.TextFault.{TextFault}
-use Rattle.label_text.specs.declared.hexes.TextFault.the-variants.{NotHexadecimal, HalfByte}
+use Rattle.label_text.specs.declared.hexes.Slip.{Slip}
+use Rattle.label_text.specs.declared.hexes.Slip.the-variants.{NotHexadecimal, HalfByte}
 
 abbrev pub name-of : Verb → List ℕ
 name-of Listing = codes "list"
@@ -20,9 +20,11 @@ abbrev pub Named : List ℕ → Option Verb → Type 0
 Named word (Some v) = word ≡ name-of v
 Named word None = (v : Verb) → word ≡ name-of v → ⊥
 
-abbrev pub at-spot : Spot → List ℕ → List ℕ
-at-spot s what = codes "line " ++ (decimal (s .line) ++ (codes ", column " ++ (decimal (s .column) ++ what)))
+abbrev pub slip-words : Slip → List ℕ
+slip-words NotHexadecimal = codes "this is no hexadecimal digit"
+slip-words HalfByte = codes "the second digit of a byte is missing"
 
+-- what is wrong, with its line and column
 abbrev pub fault-words : TextFault → List ℕ
-fault-words (NotHexadecimal s) = at-spot s (codes ": this is no hexadecimal digit")
-fault-words (HalfByte s) = at-spot s (codes ": the second digit of a byte is missing")
+fault-words f =
+    codes "line " ++ (decimal (f .spot .line) ++ (codes ", column " ++ (decimal (f .spot .column) ++ (codes ": " ++ slip-words (f .slip)))))

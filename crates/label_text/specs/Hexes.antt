@@ -10,7 +10,7 @@ use Rattle.std.specs.declared.result.Result.{Result}
 use Rattle.std.specs.declared.result.Result.the-variants.{Ok, Err}
 use Rattle.label_text.specs.declared.hexes.Spot.{Spot}
 use Rattle.label_text.specs.declared.hexes.TextFault.{TextFault}
-use Rattle.label_text.specs.declared.hexes.TextFault.the-variants.{NotHexadecimal, HalfByte}
+use Rattle.label_text.specs.declared.hexes.Slip.the-variants.{NotHexadecimal, HalfByte}
 use Rattle.label_text.specs.declared.hexes.Mode.{Mode}
 use Rattle.label_text.specs.declared.hexes.Mode.the-variants.{Between, Half, Comment}
 use Rattle.label_text.specs.declared.hexes.Turn.{Turn}
@@ -63,12 +63,12 @@ with-byte b (Err f) = Err f
 abbrev pub after-turn : Turn → Spot → (Mode → Result (List ℕ) TextFault) → Result (List ℕ) TextFault
 after-turn (Goes m) s rest = rest m
 after-turn (Gives b) s rest = with-byte b (rest Between)
-after-turn Strange s rest = Err (NotHexadecimal s)
-after-turn Missing s rest = Err (HalfByte s)
+after-turn Strange s rest = Err (record { slip = NotHexadecimal; spot = s })
+after-turn Missing s rest = Err (record { slip = HalfByte; spot = s })
 
 abbrev pub read-on : Mode → Spot → List ℕ → Result (List ℕ) TextFault
 read-on Between s [] = Ok []
-read-on (Half high) s [] = Err (HalfByte s)
+read-on (Half high) s [] = Err (record { slip = HalfByte; spot = s })
 read-on Comment s [] = Ok []
 read-on Between s (c ∷ cs) = after-turn (turn Between c) s (λ m. read-on m (behind s c) cs)
 read-on (Half high) s (c ∷ cs) = after-turn (turn (Half high) c) s (λ m. read-on m (behind s c) cs)

@@ -16,12 +16,18 @@ pub struct Spot {
     pub column: usize,
 }
 
+// What is wrong with a character: it is neither a digit nor a space, a line end or a comment; or the second digit of a byte
+// should stand in its place.
 #[derive(Clone, Copy)]
-pub enum TextFault {
-    // this character is neither a digit nor a space, a line end or a comment
-    NotHexadecimal(Spot),
-    // the second digit of a byte is missing here
-    HalfByte(Spot),
+pub enum Slip {
+    NotHexadecimal,
+    HalfByte,
+}
+
+#[derive(Clone, Copy)]
+pub struct TextFault {
+    pub slip: Slip,
+    pub spot: Spot,
 }
 
 #[derive(Clone, Copy)]
@@ -138,13 +144,22 @@ fn read_text(heap: Global, text: &[u8]) -> Result<Vec<u8>, HexFault>
                 bytes.push(byte)?;
                 mode = Mode::Between;
             }
-            Turn::Strange => return Err(HexFault::Text(TextFault::NotHexadecimal(spot))),
-            Turn::Missing => return Err(HexFault::Text(TextFault::HalfByte(spot))),
+            Turn::Strange => return Err(HexFault::Text(TextFault {
+                slip: Slip::NotHexadecimal,
+                spot,
+            })),
+            Turn::Missing => return Err(HexFault::Text(TextFault {
+                slip: Slip::HalfByte,
+                spot,
+            })),
         }
         spot.pass(*c);
     }
     match mode {
-        Mode::Half(_) => Err(HexFault::Text(TextFault::HalfByte(spot))),
+        Mode::Half(_) => Err(HexFault::Text(TextFault {
+            slip: Slip::HalfByte,
+            spot,
+        })),
         Mode::Between => Ok(bytes),
         Mode::Comment => Ok(bytes),
     }

@@ -2,7 +2,7 @@
 ghost use Rattle.records.specs.Numbers.{number-of};
 ghost use mathlib.Core.Path.{_≡_};
 
-#[derive(Clone, Copy, PartialEq)]
+#[derive(Clone, Copy)]
 pub enum Cause {
     TooLong,
     UnknownKind,
@@ -10,7 +10,7 @@ pub enum Cause {
 }
 
 // The place is an offset in the sheet.
-#[derive(Clone, Copy, PartialEq)]
+#[derive(Clone, Copy)]
 pub struct Fault {
     pub cause: Cause,
     pub place: usize,

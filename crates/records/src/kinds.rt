@@ -2,14 +2,14 @@
 // number, and a, b, h and l are slots that are used, or in a Match bound; h is for a head and l for a tail.
 
 // Type number 0 is Number, and the type records are numbered from 1.
-#[derive(Clone, Copy, PartialEq)]
+#[derive(Clone, Copy)]
 pub struct NodeType {
     pub element: u8,
     pub amount: u16,
 }
 
 // What a function record says. Parameter types past the count are 0xFF.
-#[derive(Clone, Copy, PartialEq)]
+#[derive(Clone, Copy)]
 pub struct Signature {
     pub count: u8,
     pub params: [u8; 4],
@@ -19,7 +19,7 @@ pub struct Signature {
 }
 
 // The records that stand in a function's body. Slots of a Call past the callee's count are 0xFF.
-#[derive(Clone, Copy, PartialEq)]
+#[derive(Clone, Copy)]
 pub enum Step {
     Const { d: u8, number: u32 },
     Arith { d: u8, op: u8, a: u8, b: u8 },
@@ -31,7 +31,7 @@ pub enum Step {
     If { a: u8, second: u16 },
 }
 
-#[derive(Clone, Copy, PartialEq)]
+#[derive(Clone, Copy)]
 pub enum Record {
     ListType(NodeType),
     Function(Signature),

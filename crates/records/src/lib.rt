@@ -8,14 +8,11 @@ mod sizes;
 
 pub use faults::Cause;
 pub use faults::Fault;
-pub use faults::FaultPartialEq;
 pub use kinds::NodeType;
 pub use kinds::Record;
-pub use kinds::RecordPartialEq;
 pub use kinds::Signature;
 pub use kinds::Step;
 pub use reading::Reader;
 pub use rounds::SHEET_LIMIT;
 pub use rounds::Tally;
-pub use rounds::TallyPartialEq;
 pub use rounds::first_round;

@@ -42,7 +42,7 @@ impl<'a> Reader<'a> {
         ensures moves { λ r. ⌜ now (self .exit) .at ≡ now (self .entry) .at + moved r ⌝ }
         ensures keeps { λ r. ⌜ now (now (self .exit) .bytes) ≡ now (now (self .entry) .bytes) ⌝ }
     {
-        match cut_front(&self.bytes[self.at..], self.at) {
+        match cut_at(self.bytes, self.at) {
             Ok(Some(record)) => {
                 self.at += record.size();
                 Ok(Some(record))
@@ -53,16 +53,18 @@ impl<'a> Reader<'a> {
     }
 }
 
-// What stands at the front of `rest`, which begins at `place`: the record whose writing the bytes begin with, and no other.
-fn cut_front(rest: &[u8], place: usize) -> Result<Option<Record>, Fault>
-    ensures answer { λ r. ⌜ r ≡ cut (now (rest .entry)) place ⌝ }
-    ensures reads { λ r. ⌜ Reads (now (rest .entry)) r ⌝ }
-    ensures fits { λ r. ⌜ moved r ≤ length (now (rest .entry)) ⌝ }
+// What stands at `place`: the record whose writing the bytes from there on begin with, and no other.
+fn cut_at(bytes: &[u8], place: usize) -> Result<Option<Record>, Fault>
+    requires { ⌜ place ≤ length (now bytes) ⌝ }
+    ensures answer { λ r. ⌜ r ≡ cut (drop place (now (bytes .entry))) place ⌝ }
+    ensures reads { λ r. ⌜ Reads (drop place (now (bytes .entry))) r ⌝ }
+    ensures fits { λ r. ⌜ place + moved r ≤ length (now (bytes .entry)) ⌝ }
 {
-    cut_by_kind(rest, place)
+    cut_front(&bytes[place..], place)
 }
 
-fn cut_by_kind(rest: &[u8], place: usize) -> Result<Option<Record>, Fault>
+// What stands at the front of `rest`, which begins at `place`.
+fn cut_front(rest: &[u8], place: usize) -> Result<Option<Record>, Fault>
     ensures answer { λ r. ⌜ r ≡ cut (now (rest .entry)) place ⌝ }
     ensures fits { λ r. ⌜ moved r ≤ length (now (rest .entry)) ⌝ }
 {

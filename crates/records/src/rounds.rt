@@ -12,7 +12,7 @@ use crate::reading::Reader;
 pub const SHEET_LIMIT: usize = 4096;
 
 // How many records of each sort a sheet has.
-#[derive(Clone, Copy, PartialEq)]
+#[derive(Clone, Copy)]
 pub struct Tally {
     pub types: usize,
     pub functions: usize,
