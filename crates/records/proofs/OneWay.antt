@@ -23,7 +23,7 @@ use Rattle.records.specs.Cutting.{Cutting, cut}
 use Rattle.records.specs.Rows.{Row, next, end, broken, row}
 use Rattle.records.specs.FirstRound.{no-records, tallied, first-round}
 use Rattle.records.specs.Inverse.{Bytes, Writable}
-use Rattle.records.specs.Sheets.{All-writable, tally, Whole, Begins-none, Refused, too-long, breaks-off, Read-in-one-way}
+use Rattle.records.specs.Sheets.{All-writable, tally, Whole, Begins-none, no-such-kind, more-wanted, Refused, too-long, breaks-off, Read-in-one-way}
 use Rattle.records.proofs.Fronts.{bytes-append, bytes-drop, bytes-zeros}
 use Rattle.records.proofs.Known.{Layout, Unknown, known}
 use Rattle.records.proofs.ReadBack.{reads-back, laid-out, short, whole-or-short}
@@ -54,7 +54,7 @@ read sheet s =
     ∙ tallied-along (s .records) (s .writable) 0 (row (s .rest)) no-records
 
 -- too few bytes of a known kind: zeros complete them
-completes : (kind : ℕ) (layout : Layout kind) (rest : List ℕ) → Bytes (kind ∷ rest) → length (kind ∷ rest) < layout .long → Begins-none CutShort kind rest
+completes : (kind : ℕ) (layout : Layout kind) (rest : List ℕ) → Bytes (kind ∷ rest) → length (kind ∷ rest) < layout .long → Begins-none kind rest CutShort
 completes kind layout rest b less =
     let n : ℕ = layout .long - length (kind ∷ rest) in
     let more : List ℕ = replicate n 0 in
@@ -66,17 +66,17 @@ completes kind layout rest b less =
     let s : size r ≡ layout .long = layout .sized all in
     let front = laid-out kind layout (rest ++ more) (bytes-append (kind ∷ rest) more b (bytes-zeros n)) (omega arith) in
     let none : drop (size r) all ≡ [] = ap (λ k. drop k all) (s ∙ sym long) ∙ drop-length all in
-    (r, more, front .writable, omega arith, sym (front .is ∙ ap (λ ys. written r ++ ys) none ∙ append-nil (written r)))
+    more-wanted r more (front .writable) (omega arith) (sym (front .is ∙ ap (λ ys. written r ++ ys) none ∙ append-nil (written r)))
 
 -- a kind byte that cuts to nothing is that of no record
-stranger : (kind : ℕ) (rest : List ℕ) → Unknown kind → Begins-none UnknownKind kind rest
-stranger kind rest unknown r body w e =
+stranger : (kind : ℕ) (rest : List ℕ) → Unknown kind → Begins-none kind rest UnknownKind
+stranger kind rest unknown = no-such-kind (λ r body w e.
     let back = sym (ap (λ xs. cut (xs ++ []) 0) e) ∙ reads-back r w [] 0 in
     let u = sym (unknown (body ++ []) 0) ∙ back in
-    let z : _≡_ {A = ℕ} 0 1 = cc in omega arith
+    let z : _≡_ {A = ℕ} 0 1 = cc in omega arith)
 
 -- why the cut fails
-fails : (kind : ℕ) (rest : List ℕ) (at : ℕ) (f : Fault) → Bytes (kind ∷ rest) → cut (kind ∷ rest) at ≡ Err f → (f .place ≡ at) × Begins-none (f .cause) kind rest
+fails : (kind : ℕ) (rest : List ℕ) (at : ℕ) (f : Fault) → Bytes (kind ∷ rest) → cut (kind ∷ rest) at ≡ Err f → (f .place ≡ at) × Begins-none kind rest (f .cause)
 fails kind rest at f b e =
     ⊎-elim
     (λ layout.
@@ -89,12 +89,12 @@ fails kind rest at f b e =
     let g = c ∙ l .1 in
     let less = l .0 in
     let same : f ≡ record { cause = CutShort; place = at } = cc in
-    (ap (λ (x : Fault). x .place) same, subst (λ (x : Fault). Begins-none (x .cause) kind rest) (sym same) (completes kind layout rest b (omega arith))))
+    (ap (λ (x : Fault). x .place) same, subst (λ (x : Fault). Begins-none kind rest (x .cause)) (sym same) (completes kind layout rest b (omega arith))))
     (whole-or-short (kind ∷ rest) at r))
     (λ unknown.
     let g = sym e ∙ unknown rest at in
     let same : f ≡ record { cause = UnknownKind; place = at } = cc in
-    (ap (λ (x : Fault). x .place) same, subst (λ (x : Fault). Begins-none (x .cause) kind rest) (sym same) (stranger kind rest unknown)))
+    (ap (λ (x : Fault). x .place) same, subst (λ (x : Fault). Begins-none kind rest (x .cause)) (sym same) (stranger kind rest unknown)))
     (known kind)
 
 refuses : (sheet : List ℕ) (rs : List Record) (rest : List ℕ) (f : Fault) → Bytes sheet → length sheet ≤ 4096 → All-writable rs → writing rs ++ rest ≡ sheet →

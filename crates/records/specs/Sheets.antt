@@ -33,17 +33,16 @@ pub record Whole (sheet : List ℕ) (t : Tally) : Type 0 where
   pub only : (others : List Record) → All-writable others → writing others ≡ sheet → others ≡ records
   pub counts : t ≡ tally no-records records
 
--- why these bytes begin no record: their kind byte is that of none, or more bytes would have to follow
-abbrev pub Begins-none : Cause → ℕ → List ℕ → Type 0
-Begins-none UnknownKind kind rest = (r : Record) (body : List ℕ) → Writable r → written r ≡ kind ∷ body → ⊥
-Begins-none CutShort kind rest = (r : Record) × (more : List ℕ) × Writable r × (0 < length more) × (written r ≡ kind ∷ (rest ++ more))
-Begins-none TooLong kind rest = ⊥
+-- why bytes behind this kind byte begin no record: the kind byte is that of none, or more bytes would have to follow
+pub data Begins-none (kind : ℕ) (rest : List ℕ) : Cause → Type 0 where
+  no-such-kind : ((r : Record) (body : List ℕ) → Writable r → written r ≡ kind ∷ body → ⊥) → Begins-none kind rest UnknownKind
+  more-wanted : (r : Record) (more : List ℕ) → Writable r → 0 < length more → written r ≡ kind ∷ (rest ++ more) → Begins-none kind rest CutShort
 
 -- the sheet is too long, or begins with these records and then with bytes that begin none
 pub data Refused (sheet : List ℕ) : Fault → Type 0 where
   too-long : 4096 < length sheet → Refused sheet (record { cause = TooLong; place = 0 })
   breaks-off : {cause : Cause} (records : List Record) (kind : ℕ) (rest : List ℕ) → length sheet ≤ 4096 → All-writable records →
-      writing records ++ kind ∷ rest ≡ sheet → Begins-none cause kind rest →
+      writing records ++ kind ∷ rest ≡ sheet → Begins-none kind rest cause →
       Refused sheet (record { cause = cause; place = length (writing records) })
 
 abbrev pub Read-in-one-way : List ℕ → Result Tally Fault → Type 0

@@ -7,6 +7,21 @@ pub enum Cause {
     TooLong,
     UnknownKind,
     CutShort,
+    OutOfOrder,
+    NoFunction,
+    TooMany,
+    ElementNotLower,
+    BadSignature,
+    BadResult,
+    BodyEnd,
+    WrongSecond,
+    TooManyWaiting,
+    BadField,
+    EmptySlot,
+    WrongType,
+    BadBinding,
+    ListLeft,
+    BalanceTooSmall,
 }
 
 // The place is an offset in the sheet.
@@ -25,6 +40,21 @@ impl Cause {
             Cause::TooLong => 10,
             Cause::UnknownKind => 11,
             Cause::CutShort => 12,
+            Cause::OutOfOrder => 20,
+            Cause::NoFunction => 21,
+            Cause::TooMany => 22,
+            Cause::ElementNotLower => 23,
+            Cause::BadSignature => 24,
+            Cause::BadResult => 25,
+            Cause::BodyEnd => 30,
+            Cause::WrongSecond => 31,
+            Cause::TooManyWaiting => 32,
+            Cause::BadField => 33,
+            Cause::EmptySlot => 34,
+            Cause::WrongType => 35,
+            Cause::BadBinding => 36,
+            Cause::ListLeft => 37,
+            Cause::BalanceTooSmall => 40,
         }
     }
 }

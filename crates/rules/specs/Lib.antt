@@ -1,0 +1,16 @@
+pub mod Limits
+pub mod Types
+pub mod Programs
+pub mod Branches
+pub mod Form
+pub mod Contexts
+pub mod Rules
+pub mod Lawful
+pub mod Tests
+pub mod Accounts
+pub mod Findings
+pub mod SecondRound
+pub mod ThirdRound
+pub mod Verdict
+pub mod Law
+pub mod Reach

@@ -1,0 +1,4 @@
+pub mod Sizes
+pub mod Stacks
+pub mod Exactness
+pub mod Standing

@@ -1,0 +1,5 @@
+use mathlib.Core.Path.{sym}
+use Rattle.sheet.proofs.passed.Sheet.function_count.Needs as need
+
+pub returns : need.returns
+returns c = sym (c .args .self .now .functions)
