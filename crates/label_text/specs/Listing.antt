@@ -4,7 +4,7 @@ use mathlib.Core.Path.{_≡_}
 use mathlib.Core.Bool.{cond}
 use Prim.Native.Nat.{ℕ, _+_}
 use lib.Chars.{codes}
-use lib.Dec.{ltb}
+use lib.Dec.{eqb, ltb}
 use lib.ListN.{length}
 use Rattle.std.specs.declared.result.Result.{Result}
 use Rattle.std.specs.declared.result.Result.the-variants.{Ok, Err}
@@ -54,6 +54,15 @@ lines (broken f) n = []
 -- a sheet that is too long is not cut
 abbrev pub record-lines : List ℕ → List ℕ
 record-lines bytes = cond (ltb 4096 (length bytes)) [] (lines (row bytes 0) (record { types = 0; functions = 0 }))
+
+-- the line of the record at this place, if one is cut there
+abbrev pub line-at : Row → Numbering → ℕ → List ℕ
+line-at (next at r rest) n place = cond (eqb at place) (record-line at (number-behind n r) r) (line-at rest (numbered n r) place)
+line-at (end at) n place = []
+line-at (broken f) n place = []
+
+abbrev pub line-in : List ℕ → ℕ → List ℕ
+line-in bytes place = cond (ltb 4096 (length bytes)) [] (line-at (row bytes 0) (record { types = 0; functions = 0 }) place)
 
 -- what the first round says of the whole sheet
 abbrev pub last-line : ℕ → Result Tally Fault → List ℕ

@@ -7,7 +7,8 @@ use lib.Dec.{eqb}
 use lib.ListN.{getD}
 use Rattle.std.specs.Written.{decimal}
 use Rattle.records.specs.declared.faults.Cause.{Cause}
-use Rattle.records.specs.declared.faults.Cause.the-variants.{TooLong, UnknownKind, CutShort}
+use Rattle.records.specs.declared.faults.Cause.the-variants.{TooLong, UnknownKind, CutShort, OutOfOrder, NoFunction, TooMany, ElementNotLower, BadSignature, BadResult}
+use Rattle.records.specs.declared.faults.Cause.the-variants.{BodyEnd, WrongSecond, TooManyWaiting, BadField, EmptySlot, WrongType, BadBinding, ListLeft, BalanceTooSmall}
 use Rattle.records.specs.declared.kinds.NodeType.{NodeType}
 use Rattle.records.specs.declared.kinds.Signature.{Signature}
 use Rattle.records.specs.declared.kinds.Step.{Step as Action}
@@ -53,3 +54,18 @@ abbrev pub reason : Cause → List ℕ
 reason TooLong = codes "the sheet is longer than 4096 bytes"
 reason UnknownKind = codes "no record has this kind"
 reason CutShort = codes "the sheet ends inside this record"
+reason OutOfOrder = codes "a step before the first function, or a type behind it"
+reason NoFunction = codes "the sheet has no function"
+reason TooMany = codes "more than 32 types or functions"
+reason ElementNotLower = codes "the element type is not lower than the type's own number"
+reason BadSignature = codes "a count over 4, an unknown type or an FF out of place"
+reason BadResult = codes "the result of function 0 is no list of Number"
+reason BodyEnd = codes "a step behind a body's end, or a body that is not finished"
+reason WrongSecond = codes "the second branch starts elsewhere"
+reason TooManyWaiting = codes "more than 16 second branches wait"
+reason BadField = codes "a slot, function, op, type or FF that cannot stand here"
+reason EmptySlot = codes "an empty slot is used"
+reason WrongType = codes "a slot has the wrong sort, or does not cover what is asked"
+reason BadBinding = codes "a list slot is bound, or one slot twice"
+reason ListLeft = codes "a list is left at a return"
+reason BalanceTooSmall = codes "the balance is too small"

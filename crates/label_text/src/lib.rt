@@ -13,5 +13,7 @@ pub use hexes::Spot;
 pub use hexes::TextFault;
 pub use hexes::parse_hex;
 pub use listing::Listing;
+pub use listing::line_at;
 pub use listing::list;
 pub use listing::refusal_line;
+pub use words::record_words;

@@ -1,6 +1,6 @@
 // The listing of a sheet: a line for each record at its offset, and a last line with the counts or the refusal.
 ghost use Prim.Native.Nat.{_+_, _<_};
-ghost use Rattle.label_text.specs.Listing.{Listed, record-line, record-lines, last-line, count-line, refusal-line, numbered, number-behind};
+ghost use Rattle.label_text.specs.Listing.{Listed, record-line, record-lines, last-line, count-line, refusal-line, numbered, number-behind, line-in};
 ghost use Rattle.std.specs.Of.String.{string-bytes};
 ghost use Rattle.std.specs.Vec.{made};
 ghost use mathlib.Core.Path.{_≡_};
@@ -86,6 +86,32 @@ fn record_lines(heap: Global, bytes: &[u8]) -> Result<String, AllocError>
         at = reader.place();
     }
     Ok(text)
+}
+
+// The line of the listing for the record at a place; nothing where no record is cut there.
+pub fn line_at(heap: Global, bytes: &[u8], place: usize) -> Result<String, AllocError>
+    ensures { λ r. ⌜ made r (λ s. string-bytes s ≡ line-in (now (bytes .entry)) place) ⌝ }
+{
+    if bytes.len() > SHEET_LIMIT {
+        return Ok(String::new(heap));
+    }
+    let mut reader = Reader::new(bytes);
+    let mut numbering = Numbering {
+        types: 0,
+        functions: 0,
+    };
+    let mut at = 0;
+    while let Ok(next) = reader.next() {
+        let Some(record) = next else {
+            return Ok(String::new(heap));
+        };
+        let number = numbering.number(&record);
+        if at == place {
+            return record_line(heap, at, number, &record);
+        }
+        at = reader.place();
+    }
+    Ok(String::new(heap))
 }
 
 fn last_line(
