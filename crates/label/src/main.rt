@@ -1,4 +1,5 @@
 // The label program: text in, text out, over the proved libraries.
+use check_text::report_on;
 use label_text::HexFault;
 use label_text::Verb;
 use label_text::fault_words;
@@ -11,7 +12,9 @@ use std::io;
 use std::io::Read;
 
 const USAGE: &str = "usage: label list [FILE]
+       label check [FILE]
   list   the records of a sheet, each at its offset in words, and their counts
+  check  whether the sheet loads: its tables, or why not and where
 A sheet is hexadecimal text, with spaces, line ends and comments from # on.
 Without a FILE it is read from standard input.
 ";
@@ -47,28 +50,42 @@ fn main(rt: LibcRuntime) -> Result<(), Stop> {
 
 fn run(rt: &LibcRuntime) -> Result<(), Stop> {
     let words: Vec<String> = env::args(rt)?.collect(rt.alloc())?;
-    match words.as_slice() {
-        [] | [_] => Ok(print!(rt, "{USAGE}")?),
-        [_, verb, rest @ ..] => match (Verb::named(verb.as_str()), rest) {
-            (Some(Verb::List), []) => list_sheet(rt, None),
-            (Some(Verb::List), [file]) => list_sheet(rt, Some(file.as_str())),
-            _ => {
-                eprint!(rt, "{USAGE}")?;
-                Err(Stop::Said)
-            }
-        },
+    let [_, verb, rest @ ..] = words.as_slice() else {
+        return Ok(print!(rt, "{USAGE}")?);
+    };
+    let file = match rest {
+        [] => None,
+        [file] => Some(file.as_str()),
+        _ => return wrong_words(rt),
+    };
+    match Verb::named(verb.as_str()) {
+        Some(Verb::List) => list_sheet(rt, file),
+        Some(Verb::Check) => check_sheet(rt, file),
+        None => wrong_words(rt),
     }
+}
+
+fn wrong_words(rt: &LibcRuntime) -> Result<(), Stop> {
+    eprint!(rt, "{USAGE}")?;
+    Err(Stop::Said)
 }
 
 fn list_sheet(rt: &LibcRuntime, file: Option<&str>) -> Result<(), Stop> {
     let bytes = read_sheet(rt, file)?;
     let listing = list(rt.alloc(), bytes.as_slice())?;
-    rt.print(listing.text.as_str())?;
-    if listing.accepted {
-        Ok(())
-    } else {
-        Err(Stop::Said)
-    }
+    say(rt, listing.text.as_str(), listing.accepted)
+}
+
+fn check_sheet(rt: &LibcRuntime, file: Option<&str>) -> Result<(), Stop> {
+    let bytes = read_sheet(rt, file)?;
+    let report = report_on(rt.alloc(), bytes.as_slice())?;
+    say(rt, report.text.as_str(), report.accepted)
+}
+
+// What is said of a sheet; a sheet that is refused ends the program with status 1.
+fn say(rt: &LibcRuntime, text: &str, accepted: bool) -> Result<(), Stop> {
+    rt.print(text)?;
+    if accepted { Ok(()) } else { Err(Stop::Said) }
 }
 
 // The bytes of a sheet, from a file of hexadecimal text or from standard input.

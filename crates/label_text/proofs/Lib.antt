@@ -1,4 +1,4 @@
-mod Texts
+pub mod Texts
 mod Lines
 mod Readings
 mod Grammar

@@ -7,13 +7,14 @@ use Rattle.std.specs.declared.option.Option.{Option}
 use Rattle.std.specs.declared.option.Option.the-variants.{Some, None}
 use Rattle.std.specs.Written.{decimal}
 use Rattle.label_text.specs.declared.commands.Verb.{Verb}
-use Rattle.label_text.specs.declared.commands.Verb.the-variants.{List as Listing}
+use Rattle.label_text.specs.declared.commands.Verb.the-variants.{List as Listing, Check}
 use Rattle.label_text.specs.declared.hexes.TextFault.{TextFault}
 use Rattle.label_text.specs.declared.hexes.Slip.{Slip}
 use Rattle.label_text.specs.declared.hexes.Slip.the-variants.{NotHexadecimal, HalfByte}
 
 abbrev pub name-of : Verb → List ℕ
 name-of Listing = codes "list"
+name-of Check = codes "check"
 
 -- the verb of that name, or none if no verb has it
 abbrev pub Named : List ℕ → Option Verb → Type 0

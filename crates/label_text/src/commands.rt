@@ -12,6 +12,7 @@ use std::alloc::Global;
 #[derive(Clone, Copy)]
 pub enum Verb {
     List,
+    Check,
 }
 
 impl Verb {
@@ -19,10 +20,10 @@ impl Verb {
     pub fn named(word: &str) -> Option<Verb>
         ensures { λ r. ⌜ Named (now (word .entry)) r ⌝ }
     {
-        if word == "list" {
-            Some(Verb::List)
-        } else {
-            None
+        match word {
+            "list" => Some(Verb::List),
+            "check" => Some(Verb::Check),
+            _ => None,
         }
     }
 }
