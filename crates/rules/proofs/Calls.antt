@@ -1,16 +1,12 @@
 -- Call: the finding agrees with the rule.
-use mathlib.Core.Path.{_≡_, refl, sym, ap, subst, _∙_}
-use Prim.Native.Nat.{ℕ, _+_, _-_, _≤_, _<_}
-use lib.Dec.{eqb, ltb, leb}
+use mathlib.Core.Path.{_≡_, refl, sym, ap, subst}
+use Prim.Native.Nat.{ℕ, _+_, _-_, _≤_}
+use lib.Dec.{leb}
 use Rattle.records.specs.declared.kinds.Signature.{Signature}
-use Rattle.records.specs.declared.kinds.Step.{Step as Action}
-use Rattle.records.specs.declared.kinds.Step.the-variants.{Const, Arith, Empty, Cons, Call, Return, Match, If}
+use Rattle.records.specs.declared.kinds.Step.the-variants.{Call}
 use Rattle.records.specs.declared.kinds.Record.the-variants.{Step}
-use Rattle.records.specs.Writing.{step-size}
 use Rattle.rules.specs.declared.accounts.Account.{Account}
-use Rattle.rules.specs.declared.findings.Finding.{Finding}
-use Rattle.rules.specs.declared.findings.Finding.the-variants.{Broken, Onward, Forks, Ends}
-use mathlib.Core.List.{List, map}
+use mathlib.Core.List.{List}
 use mathlib.Core.Bool.{true}
 use lib.ListN.{take}
 use Rattle.std.specs.declared.option.Option.the-variants.{Some}
@@ -23,7 +19,7 @@ use Rattle.rules.specs.Rules.{parameters, Derives, derive-call}
 use Rattle.rules.specs.Accounts.{slot-of, may-bind, all-filled, all-cover, after-uses}
 use Rattle.rules.specs.Findings.{find-call}
 use Rattle.rules.proofs.Numbered.{slot-of-type}
-use Rattle.rules.proofs.Contexts.{context-of, bind-context, binds, binds-may, passes, Passed, passes-true}
+use Rattle.rules.proofs.Contexts.{context-of, bind-context, binds, binds-may, passes, passes-true}
 use Rattle.rules.proofs.Ruled.{Account-derives, Ruled, rule-onward, by-need, in-context}
 
 module _ (bytes : List ℕ) (t : Tables) (g : Signature) (lower : Elements-lower (t .types)) where

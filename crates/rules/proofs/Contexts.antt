@@ -1,9 +1,9 @@
 -- The context that an account stands for, and that the tests on accounts decide what the rules ask of contexts.
 use mathlib.Core.Path.{_≡_, refl, sym, ap, subst, _∙_}
 use mathlib.Core.List.{List, [], _∷_, map}
-use mathlib.Core.Bool.{Bool, true, false, not}
-use Prim.Native.Nat.{ℕ, zero, suc, _+_}
-use lib.ListN.{length, set, getD, take, replicate, List·getD-map}
+use mathlib.Core.Bool.{true, not}
+use Prim.Native.Nat.{ℕ, _+_}
+use lib.ListN.{set, take, replicate, List·getD-map}
 use lib.Seq.{map-set}
 use Rattle.std.specs.declared.option.Option.{Option}
 use Rattle.std.specs.declared.option.Option.the-variants.{Some, None}
@@ -12,7 +12,7 @@ use Rattle.records.specs.declared.kinds.Signature.{Signature}
 use Rattle.rules.specs.declared.accounts.Slot.{Slot}
 use Rattle.rules.specs.declared.accounts.Slot.the-variants.{Vacant, Number, ListOf}
 use Rattle.rules.specs.declared.accounts.Account.{Account}
-use Rattle.rules.specs.Types.{Ty, number, list, type-of, Elements-lower}
+use Rattle.rules.specs.Types.{Ty, type-of, Elements-lower}
 use Rattle.rules.specs.Contexts.{Context, in-slot, left-of, used, bound, Uses, No-list, is-vacant, is-number, Binds, Passes, pass-none, pass-one, No-lists, no-slots, one-more, filled-from, starting}
 use Rattle.rules.specs.Rules.{parameters}
 use Rattle.rules.specs.Accounts.{slot-type, slot-of, is-filled, is-list, has-covering, slot-covers, left-in, slot-at, with-slot, after-use, may-bind, any-list, all-filled, all-cover, after-uses, slots-from, opening}

@@ -2,14 +2,13 @@
 use mathlib.Core.Path.{_≡_, refl, sym, ap, subst, _∙_}
 use mathlib.Core.List.{List, [], _∷_}
 use mathlib.Core.Bool.{Bool, true, false, cond}
-use Prim.Native.Nat.{ℕ, zero, suc, _+_, _-_, _<_, _≤_}
+use Prim.Native.Nat.{ℕ, zero, suc, _+_, _-_, _≤_}
 use native.Mathlib.Omega.{arith}
 use lib.Dec.{eqb, ltb}
 use lib.ListN.{length, drop, length-drop}
 use borrow.Author.Tests.{ltb-false, le-ltb}
 use Rattle.std.specs.declared.option.Option.{Option}
 use Rattle.std.specs.declared.option.Option.the-variants.{Some, None}
-use Rattle.std.specs.declared.result.Result.{Result}
 use Rattle.std.specs.declared.result.Result.the-variants.{Ok, Err}
 use Rattle.std.proofs.shelf.Lists.{drop-drop, drop-all}
 use Rattle.records.specs.declared.faults.Fault.{Fault}
@@ -20,7 +19,7 @@ use Rattle.records.specs.declared.kinds.Record.the-variants.{ListType, Function
 use Rattle.records.specs.declared.rounds.Tally.{Tally}
 use Rattle.records.specs.Writing.{size}
 use Rattle.records.specs.Cutting.{Cutting, whole, byte, two-at, four-at, bytes-at, cut-kind, cut}
-use Rattle.records.specs.Rows.{Row, next, end, broken, row}
+use Rattle.records.specs.Rows.{next, end, row}
 use Rattle.records.specs.FirstRound.{counted, no-records, tallied, first-round}
 use Rattle.records.proofs.Positive.{size-positive}
 use Rattle.records.proofs.Rows.{row-of-cut, row-ends, row-breaks}

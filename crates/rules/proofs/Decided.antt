@@ -1,6 +1,6 @@
 -- Whether a sheet is lawful, with given tables, is decided by the verdict. So a sheet that is known to be lawful, in a way that
 -- hides how, is lawful.
-use mathlib.Core.Path.{_≡_, refl, sym, ap, subst, _∙_}
+use mathlib.Core.Path.{_≡_, refl, ap, subst, _∙_}
 use mathlib.Core.List.{List, [], _∷_}
 use mathlib.Core.Bool.{Bool, true, false, Bool-set}
 use mathlib.Core.Logic.{∥∥₁-elim}
@@ -11,7 +11,6 @@ use Rattle.std.specs.declared.result.Result.{Result}
 use Rattle.std.specs.declared.result.Result.the-variants.{Ok, Err}
 use Rattle.records.specs.declared.faults.Fault.{Fault}
 use Rattle.records.specs.declared.kinds.NodeType.{NodeType}
-use Rattle.records.specs.declared.kinds.Signature.{Signature}
 use Rattle.rules.specs.declared.functions.FunctionEntry.{FunctionEntry}
 use Rattle.rules.specs.Programs.{Tables}
 use Rattle.rules.specs.Lawful.{Lawful}

@@ -7,7 +7,7 @@ use native.Mathlib.Omega.{arith}
 use lib.Dec.{eqb, ltb, leb}
 use lib.ListN.{length, set, getD, take, drop, length-take}
 use lib.Seq.{getD-take, take-all}
-use borrow.Author.Tests.{lt-ltb, le-ltb, le-leb, lt-leb, eq-eqb, ne-eqb, ltb-true, ltb-false}
+use borrow.Author.Tests.{le-leb, lt-leb, ne-eqb, ltb-true, ltb-false}
 use Rattle.std.proofs.shelf.Lists.{getD-past, drop-more, drop-all}
 use Rattle.records.specs.declared.kinds.NodeType.{NodeType}
 use Rattle.rules.specs.declared.accounts.Slot.{Slot}

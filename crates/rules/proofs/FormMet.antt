@@ -1,29 +1,19 @@
 -- What has the form of a sheet passes the second round, and is laid out for the third.
 use mathlib.Core.Path.{_≡_, refl, sym, ap, subst, _∙_}
 use mathlib.Core.List.{List, [], _∷_, _++_, append-nil, append-assoc}
-use mathlib.Core.Bool.{Bool, true, false, cond}
+use mathlib.Core.Bool.{true}
 use Prim.Native.Nat.{ℕ, zero, suc, _+_, _-_, _<_, _≤_}
 use native.Mathlib.Omega.{arith}
-use lib.Dec.{eqb, ltb, leb}
 use lib.ListN.{length, getD, length-append}
-use borrow.Author.Tests.{ltb-true, ltb-false, eqb-true, eq-eqb, ne-eqb}
-use Rattle.std.specs.declared.option.Option.the-variants.{Some, None}
-use Rattle.std.proofs.shelf.Lists.{getD-past}
+use borrow.Author.Tests.{eq-eqb}
 use Rattle.records.specs.declared.kinds.NodeType.{NodeType}
-use Rattle.records.specs.declared.kinds.Signature.{Signature}
-use Rattle.records.specs.declared.kinds.Step.{Step as Action}
-use Rattle.records.specs.declared.kinds.Record.{Record}
 use Rattle.records.specs.declared.kinds.Record.the-variants.{ListType, Function, Step}
-use Rattle.records.specs.Writing.{size, step-size}
-use Rattle.records.proofs.Positive.{size-positive, step-size-positive}
 use Rattle.rules.specs.declared.functions.FunctionEntry.{FunctionEntry}
-use Rattle.rules.specs.Limits.{byte-limit, type-limit, function-limit}
-use Rattle.rules.specs.Types.{Ty, number, list, no-record, type-record, type-of, Elements-lower}
-use Rattle.rules.specs.Programs.{Tables, program, fetch, no-function, signature-of}
+use Rattle.rules.specs.Limits.{type-limit, function-limit}
+use Rattle.rules.specs.Types.{number, list, no-record, type-record, type-of, Elements-lower}
+use Rattle.rules.specs.Programs.{Tables, program, signature-of}
 use Rattle.rules.specs.Branches.{Branch, step-then, ends-with, forks-with}
 use Rattle.rules.specs.Form.{Type-records, no-types, type-then, Functions, no-functions, function-then, Signed, Form}
-use Rattle.rules.specs.Tests.{both, is-list-type}
-use Rattle.rules.specs.Accounts.{list-type}
 use Rattle.rules.specs.SecondRound.{numbers-listed, with-type, with-function, no-tables}
 use Rattle.rules.proofs.Truth.{impossible, join}
 use Rattle.rules.proofs.Numbered.{type-of-list, number-only, true-list-type}

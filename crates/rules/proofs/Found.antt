@@ -1,16 +1,15 @@
 -- What the check finds of a step agrees with the form and the rules together.
-use mathlib.Core.Path.{_≡_, refl, sym, ap, subst, _∙_}
-use Prim.Native.Nat.{ℕ, _+_, _-_, _≤_, _<_}
-use lib.Dec.{eqb, ltb, leb}
+use mathlib.Core.Path.{_≡_, refl}
+use Prim.Native.Nat.{ℕ, _-_, _<_}
+use lib.Dec.{ltb}
 use Rattle.records.specs.declared.faults.Cause.{Cause}
 use Rattle.records.specs.declared.kinds.Signature.{Signature}
 use Rattle.records.specs.declared.kinds.Step.{Step as Action}
 use Rattle.records.specs.declared.kinds.Step.the-variants.{Const, Arith, Empty, Cons, Call, Return, Match, If}
 use Rattle.records.specs.declared.kinds.Record.the-variants.{Step}
-use Rattle.records.specs.Writing.{step-size}
 use Rattle.rules.specs.declared.accounts.Account.{Account}
 use Rattle.rules.specs.declared.findings.Finding.{Finding}
-use Rattle.rules.specs.declared.findings.Finding.the-variants.{Broken, Onward, Forks, Ends}
+use Rattle.rules.specs.declared.findings.Finding.the-variants.{Broken}
 use mathlib.Core.List.{List}
 use mathlib.Core.Bool.{Bool, true, false}
 use lib.ListN.{length}
@@ -20,12 +19,12 @@ use borrow.Author.Tests.{ltb-true, lt-ltb}
 use Rattle.rules.specs.Limits.{slot-count, waiting-limit, op-count}
 use Rattle.rules.specs.Types.{Elements-lower}
 use Rattle.rules.specs.Programs.{Tables, program, signature-of}
-use Rattle.rules.specs.Branches.{Straight, Ending, Forking, is-match, is-if, Fields}
+use Rattle.rules.specs.Branches.{Forking, is-match, is-if, Fields}
 use Rattle.rules.specs.Tests.{both, padded, is-list-type}
 use Rattle.rules.specs.Findings.{need, has-room, fields-right, find-step, finding}
 use Rattle.rules.proofs.Truth.{impossible, split, join}
 use Rattle.rules.proofs.Numbered.{list-type-true, true-list-type, padded-true, true-padded}
-use Rattle.rules.proofs.Ruled.{Account-derives, Derives-at, Ruled, rule-breaks, rule-onward, rule-forks, rule-ends}
+use Rattle.rules.proofs.Ruled.{Account-derives, Ruled}
 use Rattle.rules.proofs.Straights.{ruled-const, ruled-arith, ruled-empty, ruled-cons}
 use Rattle.rules.proofs.Calls.{ruled-call}
 use Rattle.rules.proofs.Turnings.{ruled-return, ruled-match, ruled-if}

@@ -1,6 +1,6 @@
 -- The second round gathers tables exactly where every type and function record fits those before it.
 use mathlib.Core.Path.{_≡_, refl, sym, ap, subst, _∙_}
-use mathlib.Core.List.{List, [], _∷_, _++_}
+use mathlib.Core.List.{List}
 use mathlib.Core.Bool.{Bool, true, false, cond}
 use Prim.Native.Nat.{ℕ, _+_, _<_, _≤_}
 use native.Mathlib.Omega.{arith}
@@ -10,7 +10,7 @@ use borrow.Author.Tests.{ltb-true, lt-ltb, leb-true, le-leb, eqb-true, eqb-false
 use Rattle.std.specs.declared.option.Option.{Option}
 use Rattle.std.specs.declared.option.Option.the-variants.{Some, None}
 use Rattle.std.specs.declared.result.Result.{Result}
-use Rattle.std.specs.declared.result.Result.the-variants.{Ok, Err}
+use Rattle.std.specs.declared.result.Result.the-variants.{Ok}
 use Rattle.records.specs.declared.faults.Cause.{Cause}
 use Rattle.records.specs.declared.faults.Cause.the-variants.{OutOfOrder, NoFunction, TooMany, ElementNotLower, BadSignature, BadResult}
 use Rattle.records.specs.declared.faults.Fault.{Fault}
@@ -24,7 +24,7 @@ use Rattle.rules.specs.Limits.{type-limit, function-limit, parameter-limit}
 use Rattle.rules.specs.Programs.{Tables, fetch}
 use Rattle.rules.specs.Form.{Signed}
 use Rattle.rules.specs.Tests.{both, padded}
-use Rattle.rules.specs.SecondRound.{fault, unless, type-fault, signature-right, numbers-listed, function-fault, step-fault, with-type, with-function, go-on, gathered}
+use Rattle.rules.specs.SecondRound.{fault, unless, signature-right, numbers-listed, with-type, with-function, go-on, gathered}
 use Rattle.rules.proofs.Truth.{impossible, split, join}
 use Rattle.rules.proofs.Numbered.{padded-true, true-padded}
 use Rattle.rules.proofs.Chains.{Chain, chain-end, chain-next}

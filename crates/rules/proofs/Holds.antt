@@ -19,10 +19,11 @@ use Rattle.rules.specs.ThirdRound.{Answer, between, bodies-pass}
 use Rattle.rules.specs.Verdict.{after-third, after-second, after-first, verdict}
 use Rattle.rules.specs.Law.{Check-accepts-what-the-rules-derive}
 use Rattle.rules.proofs.Truth.{impossible}
-use Rattle.rules.proofs.Chains.{Layout, Each, each-none, each-more}
+use Rattle.rules.proofs.Chains.{Each, each-none, each-more}
 use Rattle.rules.proofs.Cuts.{fetch-end, whole-chain, first-whole, first-passes}
-use Rattle.rules.proofs.Gathers.{Adds, gathered-adds, adds-gathered}
-use Rattle.rules.proofs.BodiesPass.{passed-derives, derives-passed}
+use Rattle.rules.proofs.Gathers.{gathered-adds, adds-gathered}
+use Rattle.rules.proofs.PassedDerives.{passed-derives}
+use Rattle.rules.proofs.DerivesPassed.{derives-passed}
 use Rattle.rules.proofs.Lower.{lower-none, adds-lower}
 use Rattle.rules.proofs.FormGained.{formed}
 use Rattle.rules.proofs.FormMet.{form-whole, form-layout, form-adds}

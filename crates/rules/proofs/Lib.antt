@@ -7,7 +7,9 @@ pub mod Calls
 pub mod Turnings
 pub mod Found
 pub mod Chains
-pub mod BodiesPass
+pub mod StepKinds
+pub mod PassedDerives
+pub mod DerivesPassed
 pub mod Cuts
 pub mod Gathers
 pub mod Lower

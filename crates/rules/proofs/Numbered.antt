@@ -1,7 +1,7 @@
 -- Type numbers and the types that they stand for; the tests on types and fields decide what they are named for.
 use mathlib.Core.Path.{_≡_, refl, sym, ap, subst, _∙_}
 use mathlib.Core.List.{List, [], _∷_}
-use mathlib.Core.Bool.{Bool, true, false, cond}
+use mathlib.Core.Bool.{true, false, cond}
 use Prim.Native.Nat.{ℕ, zero, suc, _≤_, _<_}
 use native.Mathlib.Omega.{arith}
 use lib.Dec.{eqb, ltb, leb}
@@ -13,7 +13,7 @@ use Rattle.rules.specs.declared.accounts.Slot.the-variants.{Number, ListOf}
 use Rattle.rules.specs.Limits.{unused}
 use Rattle.rules.specs.Types.{Ty, number, list, type-record, type-within, type-of, Elements-lower, Covers, number-covers, list-covers}
 use Rattle.rules.specs.Branches.{Padded, no-fields, unused-field, used-field, List-type}
-use Rattle.rules.specs.Tests.{both, covers, padded, is-list-type}
+use Rattle.rules.specs.Tests.{covers, padded, is-list-type}
 use Rattle.rules.specs.Accounts.{list-type, slot-type, slot-of}
 use Rattle.rules.proofs.Truth.{impossible, split, join}
 

@@ -1,6 +1,6 @@
 -- What a branch or a derivation reaches: a step stands there, with fields in their ranges, and the branch goes on behind it.
-use mathlib.Core.Path.{_≡_, refl, ap, subst, _∙_}
-use mathlib.Core.List.{List, _∷_}
+use mathlib.Core.Path.{_≡_, refl, subst}
+use mathlib.Core.List.{List}
 use mathlib.Core.Bool.{true}
 use Prim.Native.Nat.{ℕ, zero, suc, _+_, _<_}
 use native.Mathlib.Omega.{arith}
@@ -13,14 +13,13 @@ use Rattle.records.specs.declared.kinds.Record.the-variants.{Step}
 use Rattle.records.specs.Writing.{step-size}
 use Rattle.rules.specs.declared.functions.FunctionEntry.{FunctionEntry}
 use Rattle.rules.specs.Types.{Ty}
-use Rattle.rules.specs.Programs.{Tables, Program, program, no-function}
-use Rattle.rules.specs.Branches.{Straight, is-const, is-arith, is-empty, is-cons, is-call, Ending, is-return, Forking, is-match, is-if, Fields, Branch, step-then, ends-with, forks-with}
-use Rattle.rules.specs.Form.{Functions, no-functions, function-then, Form}
+use Rattle.rules.specs.Programs.{Program, no-function}
+use Rattle.rules.specs.Branches.{Straight, Ending, Forking, Fields, Branch, step-then, ends-with, forks-with}
+use Rattle.rules.specs.Form.{Functions, no-functions, function-then}
 use Rattle.rules.specs.Contexts.{Context}
 use Rattle.rules.specs.Rules.{Derives, derive-const, derive-arith, derive-empty, derive-cons, derive-call, derive-return, derive-match, derive-if}
 use Rattle.rules.specs.Reach.{is-step}
-use Rattle.rules.proofs.Truth.{impossible}
-use Rattle.rules.proofs.BodiesPass.{straight-forks, straight-ends, forks-ends, forks-once}
+use Rattle.rules.proofs.StepKinds.{straight-forks, straight-ends, forks-ends, forks-once}
 
 -- a derivation is of a step
 pub derives-step : {p : Program} {A : Ty} {m : ℕ} {Γ : Context} {b o : ℕ} {r : Option Record} → Derives p A m Γ b o r → is-step r ≡ true

@@ -1,8 +1,8 @@
 -- What the check finds of one step agrees with the rule for its kind.
-use mathlib.Core.Path.{_≡_, refl, sym, ap, subst, _∙_}
-use Prim.Native.Nat.{ℕ, _+_, _-_, _≤_, _<_}
+use mathlib.Core.Path.{_≡_, refl, subst}
+use Prim.Native.Nat.{ℕ, _+_, _-_}
 use Rattle.std.specs.declared.option.Option.{Option}
-use Rattle.std.specs.declared.option.Option.the-variants.{Some, None}
+use Rattle.std.specs.declared.option.Option.the-variants.{Some}
 use Rattle.records.specs.declared.faults.Cause.{Cause}
 use Rattle.records.specs.declared.kinds.Signature.{Signature}
 use Rattle.records.specs.declared.kinds.Step.{Step as Action}

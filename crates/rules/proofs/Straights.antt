@@ -1,16 +1,13 @@
 -- The kinds of steps behind which a branch goes on, but for Call: each finding agrees with its rule.
 use mathlib.Core.Path.{_≡_, refl, sym, ap, subst, _∙_}
 use Prim.Native.Nat.{ℕ, _+_, _-_, _≤_, _<_}
-use lib.Dec.{eqb, ltb, leb}
+use lib.Dec.{leb}
 use Rattle.records.specs.declared.kinds.Signature.{Signature}
 use Rattle.records.specs.declared.kinds.Step.{Step as Action}
-use Rattle.records.specs.declared.kinds.Step.the-variants.{Const, Arith, Empty, Cons, Call, Return, Match, If}
+use Rattle.records.specs.declared.kinds.Step.the-variants.{Const, Arith, Empty, Cons}
 use Rattle.records.specs.declared.kinds.Record.the-variants.{Step}
-use Rattle.records.specs.Writing.{step-size}
-use Rattle.rules.specs.declared.accounts.Slot.the-variants.{Vacant, Number, ListOf}
+use Rattle.rules.specs.declared.accounts.Slot.the-variants.{Number, ListOf}
 use Rattle.rules.specs.declared.accounts.Account.{Account}
-use Rattle.rules.specs.declared.findings.Finding.{Finding}
-use Rattle.rules.specs.declared.findings.Finding.the-variants.{Broken, Onward, Forks, Ends}
 use mathlib.Core.List.{List}
 use mathlib.Core.Bool.{true}
 use Rattle.std.specs.declared.option.Option.the-variants.{Some}
@@ -20,13 +17,13 @@ use Rattle.rules.specs.Programs.{Tables, program, fetch}
 use Rattle.rules.specs.Branches.{is-const, is-arith, is-empty, is-cons}
 use Rattle.rules.specs.Contexts.{Context, used, bound, Uses, Binds}
 use Rattle.rules.specs.Rules.{Derives, derive-const, derive-arith, derive-empty, derive-cons}
-use Rattle.rules.specs.Tests.{both, is-list-type}
+use Rattle.rules.specs.Tests.{both}
 use Rattle.rules.specs.Accounts.{list-type, is-filled, slot-covers, slot-at, after-use, may-bind}
 use Rattle.rules.specs.Findings.{price, find-const, find-arith, find-empty, find-cons}
 use Rattle.rules.proofs.Truth.{split, join}
 use Rattle.rules.proofs.Numbered.{type-of-list}
-use Rattle.rules.proofs.Contexts.{context-of, use-context, uses-context, bind-context, uses, uses-filled, uses-cover, forth, back, binds, binds-may}
-use Rattle.rules.proofs.Ruled.{Account-derives, Ruled, rule-breaks, rule-onward, by-need, in-context}
+use Rattle.rules.proofs.Contexts.{context-of, uses-context, bind-context, uses, uses-filled, uses-cover, forth, back, binds, binds-may}
+use Rattle.rules.proofs.Ruled.{Ruled, rule-onward, by-need, in-context}
 
 module _ (bytes : List ℕ) (t : Tables) (g : Signature) where
   abbrev From : Context → ℕ → ℕ → Type 0

@@ -1,17 +1,14 @@
 -- The kinds of steps that end a branch or fork it: each finding agrees with its rule.
 use mathlib.Core.Path.{_≡_, refl, sym, ap, subst, _∙_}
-use Prim.Native.Nat.{ℕ, _+_, _-_, _≤_, _<_}
-use lib.Dec.{eqb, ltb, leb}
+use Prim.Native.Nat.{ℕ, _+_, _-_, _≤_}
+use lib.Dec.{eqb, leb}
 use Rattle.records.specs.declared.kinds.Signature.{Signature}
 use Rattle.records.specs.declared.kinds.Step.{Step as Action}
-use Rattle.records.specs.declared.kinds.Step.the-variants.{Const, Arith, Empty, Cons, Call, Return, Match, If}
+use Rattle.records.specs.declared.kinds.Step.the-variants.{Return, Match, If}
 use Rattle.records.specs.declared.kinds.Record.the-variants.{Step}
-use Rattle.records.specs.Writing.{step-size}
 use Rattle.rules.specs.declared.accounts.Slot.{Slot}
 use Rattle.rules.specs.declared.accounts.Slot.the-variants.{Vacant, Number, ListOf}
 use Rattle.rules.specs.declared.accounts.Account.{Account}
-use Rattle.rules.specs.declared.findings.Finding.{Finding}
-use Rattle.rules.specs.declared.findings.Finding.the-variants.{Broken, Onward, Forks, Ends}
 use mathlib.Core.List.{List}
 use mathlib.Core.Bool.{true, not}
 use Rattle.std.specs.declared.option.Option.the-variants.{Some}
@@ -27,7 +24,7 @@ use Rattle.rules.specs.Findings.{find-return, find-opened, find-if}
 use Rattle.rules.proofs.Truth.{impossible, split, join}
 use Rattle.rules.proofs.Numbered.{slot-of-type}
 use Rattle.rules.proofs.Contexts.{context-of, slot-at-type, use-context, bind-context, uses, uses-filled, uses-cover, binds, binds-may, no-lists, none-left}
-use Rattle.rules.proofs.Ruled.{Account-derives, Ruled, rule-breaks, rule-forks, rule-ends, by-need, in-context}
+use Rattle.rules.proofs.Ruled.{Ruled, rule-breaks, rule-forks, rule-ends, by-need, in-context}
 
 module _ (bytes : List ℕ) (t : Tables) (g : Signature) where
   abbrev From : Context → ℕ → ℕ → Type 0

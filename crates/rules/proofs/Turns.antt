@@ -1,16 +1,12 @@
 -- What the loops of the third round carry from turn to turn, and how each turn keeps it. A balance is at most 65,536 for each
 -- byte passed, since every step has a byte and gains no more than that: so it never reaches the limit of its type.
-use mathlib.Core.Path.{_≡_, refl, sym, _∙_, ap, subst}
+use mathlib.Core.Path.{_≡_, sym, _∙_, ap, subst}
 use mathlib.Core.List.{List, [], _∷_}
 use mathlib.Core.Bool.{cond}
 use Prim.Native.Nat.{ℕ, suc, _+_, _-_, _*_, _<_, _≤_}
 use native.Mathlib.Omega.{arith}
 use lib.ListN.{length, drop}
 use borrow.Author.Tests.{eq-eqb, ne-eqb}
-use Rattle.std.specs.declared.option.Option.{Option}
-use Rattle.std.specs.declared.option.Option.the-variants.{Some, None}
-use Rattle.std.specs.declared.result.Result.the-variants.{Ok, Err}
-use Rattle.records.specs.declared.faults.Cause.{Cause}
 use Rattle.records.specs.declared.faults.Cause.the-variants.{WrongSecond}
 use Rattle.records.specs.declared.kinds.NodeType.{NodeType}
 use Rattle.records.specs.declared.kinds.Signature.{Signature}
@@ -23,7 +19,7 @@ use Rattle.records.proofs.Rows.{Taken}
 use Rattle.rules.specs.declared.accounts.Account.{Account}
 use Rattle.rules.specs.declared.accounts.Waiting.{Waiting}
 use Rattle.rules.specs.declared.findings.Finding.{Finding}
-use Rattle.rules.specs.declared.findings.Finding.the-variants.{Broken, Onward, Forks, Ends}
+use Rattle.rules.specs.declared.findings.Finding.the-variants.{Onward, Forks, Ends}
 use Rattle.rules.specs.Limits.{waiting-limit}
 use Rattle.rules.specs.Types.{Elements-lower}
 use Rattle.rules.specs.Programs.{Tables}

@@ -29,16 +29,19 @@ slot-type ts (ListOf t) = Some (list-type ts t)
 abbrev pub slot-of : ℕ → Slot
 slot-of t = cond (eqb t 0) Number (ListOf t)
 
+-- whether a slot has a value
 abbrev pub is-filled : Slot → Bool
 is-filled Vacant = false
 is-filled Number = true
 is-filled (ListOf t) = true
 
+-- whether a slot has a list
 abbrev pub is-list : Slot → Bool
 is-list Vacant = false
 is-list Number = false
 is-list (ListOf t) = true
 
+-- whether there is a type, and it covers t
 abbrev pub has-covering : Option Ty → Ty → Bool
 has-covering None t = false
 has-covering (Some s) t = covers s t
@@ -53,12 +56,15 @@ left-in Vacant = Vacant
 left-in Number = Number
 left-in (ListOf t) = Vacant
 
+-- what slot i has
 abbrev pub slot-at : Account → ℕ → Slot
 slot-at c i = getD (c .slots) i Vacant
 
+-- the account with another value in slot i
 abbrev pub with-slot : Account → ℕ → Slot → Account
 with-slot c i s = record { slots = set (c .slots) i s; balance = c .balance }
 
+-- the account with another balance
 abbrev pub with-balance : Account → ℕ → Account
 with-balance c b = record { slots = c .slots; balance = b }
 
@@ -70,6 +76,7 @@ after-use c i = with-slot c i (left-in (slot-at c i))
 abbrev pub may-bind : Account → ℕ → Bool
 may-bind c d = not (is-list (slot-at c d))
 
+-- whether some slot has a list
 abbrev pub any-list : List Slot → Bool
 any-list [] = false
 any-list (s ∷ ss) = cond (is-list s) true (any-list ss)

@@ -8,9 +8,11 @@ use Rattle.std.specs.declared.option.Option.the-variants.{Some, None}
 use Rattle.rules.specs.Limits.{slot-count}
 use Rattle.rules.specs.Types.{Ty, number, list, Covers}
 
+-- what each slot has, from slot 0 on: nothing, or a value of this type
 abbrev pub Context : Type 0
 Context = List (Option Ty)
 
+-- what slot i has
 abbrev pub in-slot : Context → ℕ → Option Ty
 in-slot Γ i = getD Γ i None
 

@@ -16,7 +16,6 @@ use Rattle.rules.specs.declared.accounts.Slot.the-variants.{Vacant, Number, Li
 use Rattle.rules.specs.declared.accounts.Account.{Account}
 use Rattle.rules.specs.declared.findings.Finding.{Finding}
 use Rattle.rules.specs.declared.findings.Finding.the-variants.{Broken, Onward, Forks, Ends}
-use Rattle.rules.specs.declared.functions.FunctionEntry.{FunctionEntry}
 use Rattle.rules.specs.Limits.{slot-count, waiting-limit, op-count}
 use Rattle.rules.specs.Types.{type-record}
 use Rattle.rules.specs.Programs.{Tables, signature-of}
@@ -49,9 +48,11 @@ fields-right t (Return a) = ltb a slot-count
 fields-right t (Match a h l second) = both (ltb a slot-count) (both (ltb h slot-count) (ltb l slot-count))
 fields-right t (If a second) = ltb a slot-count
 
+-- Const binds d as Number
 abbrev pub find-const : Account → ℕ → Finding
 find-const c d = need BadBinding (may-bind c d) (Onward (with-slot c d Number))
 
+-- Arith uses two Numbers and binds d as Number
 abbrev pub find-arith : List NodeType → Account → ℕ → ℕ → ℕ → Finding
 find-arith ts c d a b =
     need EmptySlot (both (is-filled (slot-at c a)) (is-filled (slot-at (after-use c a) b)))
@@ -59,6 +60,7 @@ find-arith ts c d a b =
     (need BadBinding (may-bind (after-use (after-use c a) b) d)
     (Onward (with-slot (after-use (after-use c a) b) d Number))))
 
+-- Empty binds d as the list type t
 abbrev pub find-empty : Account → ℕ → ℕ → Finding
 find-empty c d t = need BadBinding (may-bind c d) (Onward (with-slot c d (ListOf t)))
 
@@ -66,6 +68,7 @@ find-empty c d t = need BadBinding (may-bind c d) (Onward (with-slot c d (ListOf
 abbrev pub price : List NodeType → ℕ → ℕ
 price ts t = 1 + type-record ts t .amount
 
+-- Cons uses a head and a tail, pays for the node, and binds d as the list type t
 abbrev pub find-cons : List NodeType → Account → ℕ → ℕ → ℕ → ℕ → Finding
 find-cons ts c d t h l =
     need EmptySlot (both (is-filled (slot-at c h)) (is-filled (slot-at (after-use c h) l)))
@@ -99,6 +102,7 @@ find-opened ts (ListOf t) c h l second =
     need BadBinding (both (not (eqb h l)) (both (may-bind c h) (may-bind c l)))
     (Forks c second (with-slot (with-slot (with-balance c (c .balance + price ts t)) h (slot-of (type-record ts t .element))) l (ListOf t)))
 
+-- If uses a Number, and both branches start alike
 abbrev pub find-if : List NodeType → Account → ℕ → ℕ → Finding
 find-if ts c a second =
     need EmptySlot (is-filled (slot-at c a)) (need WrongType (slot-covers ts (slot-at c a) 0) (Forks (after-use c a) second (after-use c a)))

@@ -2,15 +2,15 @@
 use mathlib.Core.Path.{_≡_}
 use mathlib.Core.List.{List, [], _∷_}
 use Prim.Native.Nat.{ℕ, _+_, _<_, _≤_}
-use lib.ListN.{length, getD}
+use lib.ListN.{length}
 use Rattle.std.specs.declared.option.Option.the-variants.{Some}
 use Rattle.records.specs.declared.kinds.NodeType.{NodeType}
 use Rattle.records.specs.declared.kinds.Signature.{Signature}
 use Rattle.records.specs.declared.kinds.Record.the-variants.{ListType, Function}
 use Rattle.rules.specs.declared.functions.FunctionEntry.{FunctionEntry}
 use Rattle.rules.specs.Limits.{byte-limit, type-limit, function-limit, parameter-limit}
-use Rattle.rules.specs.Types.{Ty, number, list, type-of, Elements-lower}
-use Rattle.rules.specs.Programs.{Tables, Program, program, no-function, signature-of}
+use Rattle.rules.specs.Types.{number, list, type-of, Elements-lower}
+use Rattle.rules.specs.Programs.{Tables, Program, program, signature-of}
 use Rattle.rules.specs.Branches.{Padded, Branch}
 
 -- from o to e stand the records of these types

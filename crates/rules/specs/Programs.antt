@@ -3,7 +3,7 @@ use mathlib.Core.List.{List, []}
 use Prim.Native.Nat.{ℕ}
 use lib.ListN.{drop, getD}
 use Rattle.std.specs.declared.option.Option.{Option}
-use Rattle.std.specs.declared.option.Option.the-variants.{Some, None}
+use Rattle.std.specs.declared.option.Option.the-variants.{None}
 use Rattle.std.specs.declared.result.Result.the-variants.{Ok, Err}
 use Rattle.records.specs.declared.kinds.NodeType.{NodeType}
 use Rattle.records.specs.declared.kinds.Signature.{Signature}
@@ -11,6 +11,7 @@ use Rattle.records.specs.declared.kinds.Record.{Record}
 use Rattle.records.specs.Cutting.{Cutting, cut}
 use Rattle.rules.specs.declared.functions.FunctionEntry.{FunctionEntry}
 
+-- the record that a cut gave, if it gave one
 abbrev pub record-in : Cutting → Option Record
 record-in (Ok r) = r
 record-in (Err f) = None
@@ -24,6 +25,7 @@ pub record Tables : Type 0 where
   pub types : List NodeType
   pub functions : List FunctionEntry
 
+-- what stands for a function that a sheet does not have; no sheet of the right form uses it
 abbrev pub no-signature : Signature
 no-signature = record { count = 0; params = []; result = 0; entry = 0; remainder = 0 }
 
@@ -36,6 +38,7 @@ pub record Program : Type 0 where
   pub functions : List FunctionEntry
   pub fetched : ℕ → Option Record
 
+-- the program that bytes with these tables are
 abbrev pub program : List ℕ → Tables → Program
 program bytes t = record { types = t .types; functions = t .functions; fetched = fetch bytes }
 

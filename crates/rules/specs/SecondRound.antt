@@ -13,15 +13,14 @@ use Rattle.records.specs.declared.faults.Cause.the-variants.{OutOfOrder, NoFunc
 use Rattle.records.specs.declared.faults.Fault.{Fault}
 use Rattle.records.specs.declared.kinds.NodeType.{NodeType}
 use Rattle.records.specs.declared.kinds.Signature.{Signature}
-use Rattle.records.specs.declared.kinds.Record.{Record}
 use Rattle.records.specs.declared.kinds.Record.the-variants.{ListType, Function, Step}
 use Rattle.records.specs.Rows.{Row, next, end, broken}
-use Rattle.rules.specs.declared.functions.FunctionEntry.{FunctionEntry}
 use Rattle.rules.specs.Limits.{type-limit, function-limit, parameter-limit}
 use Rattle.rules.specs.Types.{type-record}
 use Rattle.rules.specs.Programs.{Tables}
 use Rattle.rules.specs.Tests.{both, padded, is-list-type}
 
+-- an answer that refuses, with its place
 abbrev pub fault : {A : Type 0} → Cause → ℕ → Result A Fault
 fault cause place = Err (record { cause = cause; place = place })
 
@@ -29,6 +28,7 @@ fault cause place = Err (record { cause = cause; place = place })
 abbrev pub unless : Bool → Cause → Option Cause → Option Cause
 unless test cause rest = cond test rest (Some cause)
 
+-- what is wrong with a type record behind these tables
 abbrev pub type-fault : Tables → NodeType → Option Cause
 type-fault t x =
     unless (eqb (length (t .functions)) 0) OutOfOrder
@@ -43,12 +43,14 @@ signature-right types g = both (leb (g .count) parameter-limit) (both (padded (t
 abbrev pub numbers-listed : List NodeType → ℕ → Bool
 numbers-listed ts t = both (is-list-type ts t) (eqb (type-record ts t .element) 0)
 
+-- what is wrong with a function record behind these tables
 abbrev pub function-fault : Tables → Signature → Option Cause
 function-fault t g =
     unless (ltb (length (t .functions)) function-limit) TooMany
     (unless (signature-right (length (t .types)) g) BadSignature
     (unless (cond (eqb (length (t .functions)) 0) (numbers-listed (t .types) (g .result)) true) BadResult None))
 
+-- what is wrong with a step behind these tables
 abbrev pub step-fault : Tables → Option Cause
 step-fault t = unless (ltb 0 (length (t .functions))) OutOfOrder None
 
@@ -56,9 +58,11 @@ step-fault t = unless (ltb 0 (length (t .functions))) OutOfOrder None
 abbrev pub with-type : Tables → NodeType → Tables
 with-type t x = record { types = t .types ++ (x ∷ []); functions = t .functions }
 
+-- and with one function more, whose body begins here
 abbrev pub with-function : Tables → Signature → ℕ → Tables
 with-function t g body = record { types = t .types; functions = t .functions ++ (record { signature = g; body = body } ∷ []) }
 
+-- the tables before the first record
 abbrev pub no-tables : Tables
 no-tables = record { types = []; functions = [] }
 

@@ -8,6 +8,7 @@ use Rattle.records.specs.declared.kinds.NodeType.{NodeType}
 use Rattle.rules.specs.Limits.{unused}
 use Rattle.rules.specs.Types.{Ty, number, list}
 
+-- whether both tests hold
 abbrev pub both : Bool → Bool → Bool
 both a b = cond a b false
 

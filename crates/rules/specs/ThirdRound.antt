@@ -27,9 +27,11 @@ pub data Stage : Type 0 where
   between : Stage
   within : Signature → Account → List Waiting → Stage
 
+-- a second branch that waits, of the Match or If at this place
 abbrev pub waits : ℕ → ℕ → Account → Waiting
 waits place second later = record { place = place; second = second; account = later }
 
+-- nothing, or the first fault
 abbrev pub Answer : Type 0
 Answer = Result (Unit {0}) Fault
 

@@ -24,5 +24,6 @@ abbrev pub after-first : Result Tally Fault → Row → Result Tables Fault
 after-first (Ok u) r = after-second (gathered r no-tables) r
 after-first (Err f) r = Err f
 
+-- the tables of the sheet that these bytes are, or the first fault: its cause and its place
 abbrev pub verdict : List ℕ → Result Tables Fault
 verdict bytes = after-first (first-round bytes) (row bytes 0)

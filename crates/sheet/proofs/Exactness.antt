@@ -1,14 +1,12 @@
 -- An answer that is the verdict accepts exactly what the rules derive.
-use mathlib.Core.Path.{_≡_, refl, sym, ap, _∙_}
+use mathlib.Core.Path.{_≡_, sym, ap, _∙_}
 use mathlib.Core.List.{List}
 use Prim.Native.Nat.{ℕ}
-use Rattle.std.specs.declared.option.Option.{Option}
-use Rattle.std.specs.declared.option.Option.the-variants.{Some, None}
+use Rattle.std.specs.declared.option.Option.the-variants.{Some}
 use Rattle.std.specs.declared.result.Result.{Result}
 use Rattle.std.specs.declared.result.Result.the-variants.{Ok, Err}
 use Rattle.records.specs.declared.faults.Fault.{Fault}
 use Rattle.rules.specs.Programs.{Tables}
-use Rattle.rules.specs.Lawful.{Lawful}
 use Rattle.rules.specs.Verdict.{verdict}
 use Rattle.rules.proofs.Truth.{impossible}
 use Rattle.rules.proofs.Holds.{check-accepts-what-the-rules-derive}

@@ -2,3 +2,4 @@ pub mod Sizes
 pub mod Stacks
 pub mod Exactness
 pub mod Standing
+pub mod Known

@@ -1,6 +1,6 @@
 -- Tables keep within their arrays as they grow.
 use mathlib.Core.Path.{_≡_, refl, sym, _∙_, ap, subst}
-use mathlib.Core.List.{List, [], _∷_}
+use mathlib.Core.List.{[], _∷_}
 use mathlib.Core.Bool.{Bool, true, false}
 use Prim.Native.Nat.{ℕ, _+_, _<_, _≤_}
 use native.Mathlib.Omega.{arith}
@@ -16,7 +16,7 @@ use Rattle.records.specs.declared.kinds.Signature.{Signature}
 use Rattle.rules.specs.Limits.{type-limit, function-limit}
 use Rattle.rules.specs.Types.{Elements-lower}
 use Rattle.rules.specs.Programs.{Tables}
-use Rattle.rules.specs.SecondRound.{unless, type-fault, function-fault, with-type, with-function}
+use Rattle.rules.specs.SecondRound.{unless, type-fault, function-fault}
 use Rattle.rules.proofs.Truth.{impossible}
 use Rattle.rules.proofs.Lower.{lower-more}
 use Rattle.sheet.specs.declared.tables.Tables.{Tables as Arrays}

@@ -1,5 +1,5 @@
 -- A step that stands at an offset is the first of the bytes from there on.
-use mathlib.Core.Path.{_≡_, refl, sym, ap, subst, _∙_}
+use mathlib.Core.Path.{_≡_, refl, ap, _∙_}
 use mathlib.Core.List.{List}
 use mathlib.Core.Bool.{Bool, true, false}
 use Prim.Native.Nat.{ℕ, _-_, _≤_}
@@ -8,7 +8,7 @@ use lib.Dec.{leb}
 use lib.ListN.{length, take, drop}
 use borrow.Author.Tests.{leb-true, leb-false}
 use Rattle.std.proofs.shelf.Lists.{take-rest}
-use Rattle.rules.specs.Programs.{record-in, fetch}
+use Rattle.rules.specs.Programs.{fetch}
 use Rattle.rules.specs.Reach.{is-step, Step-stands}
 use Rattle.rules.proofs.Truth.{impossible}
 use Rattle.rules.proofs.Cuts.{fetch-end, cut-anywhere}

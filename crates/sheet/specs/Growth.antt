@@ -1,8 +1,6 @@
--- How fast a balance grows: by at most 65,536 with each step, which has a byte of the sheet at least. So no balance of a sheet
--- of 4,096 bytes reaches the limit of its type. Assumes nothing.
-use mathlib.Core.List.{List, [], _∷_}
+-- How much a step may add to a balance. That no balance of a sheet reaches the limit is what the loops of the third round carry.
+-- Assumes nothing.
 use Prim.Native.Nat.{ℕ, _+_, _≤_}
-use Rattle.rules.specs.declared.accounts.Waiting.{Waiting}
 use Rattle.rules.specs.declared.findings.Finding.{Finding}
 use Rattle.rules.specs.declared.findings.Finding.the-variants.{Broken, Onward, Forks, Ends}
 
@@ -14,13 +12,9 @@ gain-limit = 65536
 abbrev pub balance-limit : ℕ
 balance-limit = 4000000000
 
+-- what a finding hands on has gained no more than that
 abbrev pub Grown : ℕ → Finding → Type 0
 Grown b (Broken cause) = Unit {0}
 Grown b (Onward c) = c .balance ≤ b + gain-limit
 Grown b (Forks first second later) = (first .balance ≤ b + gain-limit) × (later .balance ≤ b + gain-limit)
 Grown b Ends = Unit {0}
-
--- no branch that waits has a balance above this
-abbrev pub Balances-within : ℕ → List Waiting → Type 0
-Balances-within b [] = Unit {0}
-Balances-within b (w ∷ ws) = (w .account .balance ≤ b) × Balances-within b ws

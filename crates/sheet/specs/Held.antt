@@ -13,12 +13,15 @@ use Rattle.rules.specs.Types.{Elements-lower}
 use Rattle.rules.specs.Programs.{Tables}
 use Rattle.sheet.specs.declared.tables.Tables.{Tables as Arrays}
 
+-- the list types that are counted
 abbrev pub types-of : Arrays → List NodeType
 types-of t = take (t .listed) (t .types)
 
+-- the functions that are counted
 abbrev pub functions-of : Arrays → List FunctionEntry
 functions-of t = take (t .defined) (t .functions)
 
+-- both, as the tables of a sheet
 abbrev pub tables-of : Arrays → Tables
 tables-of t = record { types = types-of t; functions = functions-of t }
 
@@ -35,6 +38,7 @@ abbrev pub held : Result Arrays Fault → Result Tables Fault
 held (Ok t) = Ok (tables-of t)
 held (Err f) = Err f
 
+-- tables that are answered are sized
 abbrev pub Sized-answer : Result Arrays Fault → Type 0
 Sized-answer (Ok t) = Sized t
 Sized-answer (Err f) = Unit {0}

@@ -14,9 +14,11 @@ use Rattle.rules.specs.Tests.{is-list-type}
 use Rattle.sheet.specs.declared.passed.Sheet.{Sheet}
 use Rattle.sheet.specs.Held.{tables-of}
 
+-- the bytes that were checked
 abbrev pub bytes-of : Sheet → List ℕ
 bytes-of s = take (s .len) (s .bytes)
 
+-- their tables
 abbrev pub sheet-tables : Sheet → Tables
 sheet-tables s = tables-of (s .tables)
 

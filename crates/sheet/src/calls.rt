@@ -1,5 +1,5 @@
 // What the check finds of a Call.
-ghost use Prim.Native.Nat.{_+_, _-_, _<_, _≤_};
+ghost use Prim.Native.Nat.{_-_, _<_};
 ghost use Rattle.records.specs.declared.faults.Cause.the-variants.{BadField};
 ghost use Rattle.records.specs.declared.kinds.Step.the-variants.{Call};
 ghost use Rattle.rules.specs.Accounts.{after-uses, all-cover, all-filled};

@@ -1,11 +1,13 @@
 // What the check finds of the steps that fork a branch.
-ghost use Prim.Native.Nat.{_+_, _-_, _<_, _≤_};
+ghost use Prim.Native.Nat.{_-_, _<_};
 ghost use Rattle.records.specs.declared.faults.Cause.the-variants.{BadField, TooManyWaiting};
 ghost use Rattle.records.specs.declared.kinds.Step.the-variants.{If, Match};
 ghost use Rattle.rules.specs.Accounts.{after-use, slot-at};
-ghost use Rattle.rules.specs.Findings.{fields-right, find-if, find-opened, has-room, need};
+ghost use Rattle.rules.specs.Findings.{fields-right, find-if, find-opened, has-room as room-beside, need};
+ghost use Rattle.rules.specs.Limits.{waiting-limit};
 ghost use Rattle.sheet.specs.Growth.{Grown, balance-limit};
 ghost use Rattle.sheet.specs.Held.{Sized, tables-of, types-of};
+ghost use lib.Dec.{ltb};
 ghost use mathlib.Core.Path.{_≡_};
 use crate::accounts::bind;
 use crate::accounts::is_filled;
@@ -20,6 +22,13 @@ use rules::SLOTS;
 use rules::Slot;
 use rules::WAITING;
 
+// Whether one more second branch may wait beside so many.
+fn has_room(waiting: usize) -> bool
+    ensures { λ r. ⌜ r ≡ ltb waiting waiting-limit ⌝ }
+{
+    waiting < WAITING
+}
+
 pub(crate) fn of_match(
     tables: &Tables,
     waiting: usize,
@@ -31,10 +40,10 @@ pub(crate) fn of_match(
 ) -> Finding
     requires sized { ⌜ Sized (now tables) ⌝ }
     requires bounded { ⌜ account .balance < balance-limit ⌝ }
-    ensures finding { λ r. ⌜ r ≡ need TooManyWaiting (has-room waiting (Match a h l second)) (need BadField (fields-right (tables-of (now (tables .entry))) (Match a h l second)) (find-opened (types-of (now (tables .entry))) (slot-at account a) (after-use account a) h l second)) ⌝ }
+    ensures finding { λ r. ⌜ r ≡ need TooManyWaiting (room-beside waiting (Match a h l second)) (need BadField (fields-right (tables-of (now (tables .entry))) (Match a h l second)) (find-opened (types-of (now (tables .entry))) (slot-at account a) (after-use account a) h l second)) ⌝ }
     ensures grown { λ r. ⌜ Grown (account .balance) r ⌝ }
 {
-    if waiting >= WAITING {
+    if !has_room(waiting) {
         return Finding::Broken(Cause::TooManyWaiting);
     }
     if a as usize >= SLOTS || h as usize >= SLOTS || l as usize >= SLOTS {
@@ -70,10 +79,10 @@ pub(crate) fn of_if(
     second: u16,
 ) -> Finding
     requires sized { ⌜ Sized (now tables) ⌝ }
-    ensures finding { λ r. ⌜ r ≡ need TooManyWaiting (has-room waiting (If a second)) (need BadField (fields-right (tables-of (now (tables .entry))) (If a second)) (find-if (types-of (now (tables .entry))) account a second)) ⌝ }
+    ensures finding { λ r. ⌜ r ≡ need TooManyWaiting (room-beside waiting (If a second)) (need BadField (fields-right (tables-of (now (tables .entry))) (If a second)) (find-if (types-of (now (tables .entry))) account a second)) ⌝ }
     ensures grown { λ r. ⌜ Grown (account .balance) r ⌝ }
 {
-    if waiting >= WAITING {
+    if !has_room(waiting) {
         return Finding::Broken(Cause::TooManyWaiting);
     }
     if a as usize >= SLOTS {

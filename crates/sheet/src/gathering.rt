@@ -1,5 +1,5 @@
 // The second round: types and function records are read into the tables.
-ghost use Prim.Native.Nat.{_+_, _-_, _<_, _≤_};
+ghost use Prim.Native.Nat.{_-_};
 ghost use Rattle.records.specs.Rows.{row};
 ghost use Rattle.rules.specs.SecondRound.{function-fault, gathered, no-tables, numbers-listed, signature-right, step-fault, type-fault, with-function, with-type};
 ghost use Rattle.sheet.specs.Held.{Sized, Sized-answer, held, tables-of, types-of};
@@ -16,6 +16,9 @@ use records::Signature;
 use rules::FUNCTIONS;
 use rules::FunctionEntry;
 use rules::TYPES;
+
+// The most parameters of a function.
+const PARAMETERS: u8 = 4;
 
 impl Tables {
     fn none() -> Self
@@ -59,7 +62,7 @@ impl Tables {
         requires sized { ⌜ Sized (now self) ⌝ }
         ensures { λ r. ⌜ r ≡ signature-right (now (self .entry) .listed) (now (g .entry)) ⌝ }
     {
-        if g.count > 4 {
+        if g.count > PARAMETERS {
             return false;
         }
         if !padded(self.listed as u8 + 1, g.count, &g.params) {

@@ -1,5 +1,5 @@
 // What the check finds of the steps behind which a branch goes on, but for Call, and of Return.
-ghost use Prim.Native.Nat.{_+_, _-_, _<_, _≤_};
+ghost use Prim.Native.Nat.{_-_};
 ghost use Rattle.records.specs.declared.faults.Cause.the-variants.{BadField};
 ghost use Rattle.records.specs.declared.kinds.Step.the-variants.{Arith, Cons, Const, Empty, Return};
 ghost use Rattle.rules.specs.Findings.{fields-right, find-arith, find-cons, find-const, find-empty, find-return, need};

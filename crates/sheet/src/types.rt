@@ -1,5 +1,5 @@
 // Types by their numbers: the table's records, covering, and the fields that name types or slots.
-ghost use Prim.Native.Nat.{_+_, _-_, _<_, _≤_};
+ghost use Prim.Native.Nat.{_-_};
 ghost use Rattle.rules.specs.Accounts.{slot-covers, slot-of as slot-with};
 ghost use Rattle.rules.specs.Tests.{covers, is-list-type, padded as all-padded};
 ghost use Rattle.rules.specs.Types.{type-of, type-record as record-of};
@@ -79,12 +79,12 @@ impl Tables {
                 if t == 0 {
                     return false;
                 }
-                let a = self.type_record(s);
-                let b = self.type_record(t);
-                if a.amount < b.amount {
+                let own = self.type_record(s);
+                let wanted = self.type_record(t);
+                if own.amount < wanted.amount {
                     return false;
                 }
-                self.covers(a.element, b.element)
+                self.covers(own.element, wanted.element)
             }
         }
     }

@@ -1,63 +1,15 @@
 // What an accepted sheet tells of itself.
+use records::Step;
 use sheet::Sheet;
 use std::test::Fail;
 use std::test::check;
 
 // Each item of a list is doubled: two types, and one function of 30 bytes of body.
-const DOUBLING: [u8; 49] = [
-    0x11,
-    0,
-    0,
-    1,
-    0x11,
-    0,
-    0,
-    0,
-    0x20,
-    1,
-    1,
-    0xFF,
-    0xFF,
-    0xFF,
-    2,
-    0,
-    0,
-    0,
-    0,
-    0x41,
-    0,
-    1,
-    2,
-    0,
-    0x1E,
-    0x32,
-    0,
-    2,
-    0x40,
-    0,
-    0x35,
-    3,
-    0,
-    2,
-    0xFF,
-    0xFF,
-    0xFF,
-    0x33,
-    3,
-    2,
-    1,
-    3,
-    0x33,
-    3,
-    2,
-    1,
-    3,
-    0x40,
-    3,
-];
+const DOUBLING: &[u8] =
+    b"\x11\0\0\x01\x11\0\0\0\x20\x01\x01\xFF\xFF\xFF\x02\0\0\0\0\x41\0\x01\x02\0\x1E\x32\0\x02\x40\0\x35\x03\0\x02\xFF\xFF\xFF\x33\x03\x02\x01\x03\x33\x03\x02\x01\x03\x40\x03";
 
 fn doubling() -> Result<Sheet, Fail> {
-    match sheet::check(&DOUBLING) {
+    match sheet::check(DOUBLING) {
         Ok(sheet) => Ok(sheet),
         Err(_) => Err(Fail::new("refused")),
     }
@@ -90,5 +42,18 @@ fn functions_are_told() -> Result<(), Fail> {
             entry.body == 19 && entry.signature.count == 1 && entry.signature.result == 2,
         ),
         None => Err(Fail::new("no function 0")),
+    }
+}
+
+// The body of function 0 begins with a Match, and a step is decoded there with no other answer.
+#[test]
+fn the_body_begins_with_a_match() -> Result<(), Fail> {
+    let sheet = match sheet::check(DOUBLING) {
+        Ok(sheet) => sheet,
+        Err(_) => return Err(Fail::new("refused")),
+    };
+    match sheet.step_at(19) {
+        Step::Match { a, h, l, second } => check(a == 0 && h == 1 && l == 2 && second == 30),
+        _ => Err(Fail::new("no Match")),
     }
 }

@@ -1,5 +1,4 @@
-use mathlib.Core.Path.{_≡_, sym, subst}
-use Rattle.rules.specs.Lawful.{Lawful}
+use mathlib.Core.Path.{sym, subst}
 use Rattle.rules.proofs.Holds.{check-accepts-what-the-rules-derive}
 use Rattle.sheet.specs.Held.{tables-of}
 use Rattle.sheet.specs.Invariant.{Is-lawful}

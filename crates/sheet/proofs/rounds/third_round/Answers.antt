@@ -1,4 +1,4 @@
-use mathlib.Core.Path.{_≡_, refl, sym, ap, subst, _∙_}
+use mathlib.Core.Path.{sym, ap, subst, _∙_}
 use mathlib.Core.List.{_∷_}
 use Rattle.std.specs.declared.option.Option.the-variants.{Some}
 use Rattle.records.specs.declared.kinds.Record.the-variants.{ListType, Function, Step}

@@ -3,7 +3,6 @@ use native.Mathlib.Omega.{arith}
 use mathlib.Core.Path.{_≡_, sym, ap, _∙_}
 use mathlib.Core.List.{List}
 use lib.ListN.{take, replicate}
-use Rattle.rules.specs.declared.accounts.Account.{Account}
 use Rattle.rules.specs.declared.accounts.Slot.{Slot}
 use Rattle.rules.specs.declared.accounts.Slot.the-variants.{Vacant}
 use Rattle.rules.specs.Accounts.{slots-from}

@@ -10,7 +10,7 @@ use Rattle.std.specs.declared.option.Option.{Option}
 use Rattle.std.specs.declared.option.Option.the-variants.{Some, None}
 use Rattle.records.specs.declared.kinds.NodeType.{NodeType}
 use Rattle.rules.specs.Types.{no-record, type-record}
-use Rattle.rules.specs.Tests.{both, is-list-type}
+use Rattle.rules.specs.Tests.{both}
 use Rattle.rules.proofs.Truth.{join}
 use Rattle.rules.proofs.Entries.{record-within}
 use Rattle.sheet.specs.Held.{types-of}

@@ -1,7 +1,6 @@
-use mathlib.Core.Path.{_≡_, sym, ap, subst, _∙_}
+use mathlib.Core.Path.{sym, ap, subst, _∙_}
 use Rattle.rules.specs.Programs.{fetch}
 use Rattle.rules.specs.Reach.{is-step, Step-stands}
-use Rattle.sheet.specs.Sheets.{bytes-of}
 use Rattle.sheet.proofs.Standing.{stands-inside, fetch-rest}
 use Rattle.sheet.proofs.passed.Sheet.step_at.Needs as need
 

@@ -1,7 +1,6 @@
 use native.Mathlib.Omega.{arith}
-use mathlib.Core.Path.{_≡_, ap}
+use mathlib.Core.Path.{ap}
 use Rattle.std.proofs.shelf.Lists.{take-more-set}
-use Rattle.rules.specs.Programs.{Tables}
 use Rattle.sheet.specs.Held.{tables-of, functions-of}
 use Rattle.sheet.proofs.Sizes.{type-fine, sized-type}
 use Rattle.sheet.proofs.tables.Tables.add_type.Needs as need

@@ -13,13 +13,13 @@ pub returns-then-t-eq0 : need.returns-then-t-eq0
 returns-then-t-eq0 c =
     sym (list-covers-zero (types-of (c .args .self .now)) (c .in-ListOf .s) (c .args .t) (omega arith)) ∙ ap (λ x. slot-covers (types-of (c .args .self .now)) x (c .args .t)) (sym (c .in-ListOf .is))
 
-pub returns-else-a-b : need.returns-else-a-b
-returns-else-a-b c =
+pub returns-else-own-wanted : need.returns-else-own-wanted
+returns-else-own-wanted c =
     c .covers .ensures
-    ∙ sym (list-enough (types-of (c .args .self .now)) (c .pre .sized .lower) (c .in-ListOf .s) (c .args .t) _ _ (c .type-record-a .ensures) (c .type-record-b .ensures) (omega arith) (omega arith))
+    ∙ sym (list-enough (types-of (c .args .self .now)) (c .pre .sized .lower) (c .in-ListOf .s) (c .args .t) _ _ (c .type-record-own .ensures) (c .type-record-wanted .ensures) (omega arith) (omega arith))
     ∙ ap (λ x. slot-covers (types-of (c .args .self .now)) x (c .args .t)) (sym (c .in-ListOf .is))
 
-pub returns-then-a-b : need.returns-then-a-b
-returns-then-a-b c =
-    sym (list-short (types-of (c .args .self .now)) (c .pre .sized .lower) (c .in-ListOf .s) (c .args .t) _ _ (c .type-record-a .ensures) (c .type-record-b .ensures) (omega arith) (omega arith))
+pub returns-then-own-wanted : need.returns-then-own-wanted
+returns-then-own-wanted c =
+    sym (list-short (types-of (c .args .self .now)) (c .pre .sized .lower) (c .in-ListOf .s) (c .args .t) _ _ (c .type-record-own .ensures) (c .type-record-wanted .ensures) (omega arith) (omega arith))
     ∙ ap (λ x. slot-covers (types-of (c .args .self .now)) x (c .args .t)) (sym (c .in-ListOf .is))
