@@ -19,7 +19,7 @@ use Rattle.rules.specs.Contexts.{Context, used, bound, Uses, Binds}
 use Rattle.rules.specs.Rules.{Derives, derive-const, derive-arith, derive-empty, derive-cons}
 use Rattle.rules.specs.Tests.{both}
 use Rattle.rules.specs.Accounts.{list-type, is-filled, slot-covers, slot-at, after-use, may-bind}
-use Rattle.rules.specs.Findings.{price, find-const, find-arith, find-empty, find-cons}
+use Rattle.rules.specs.Findings.{node-cost, find-const, find-arith, find-empty, find-cons}
 use Rattle.rules.proofs.Truth.{split, join}
 use Rattle.rules.proofs.Numbered.{type-of-list}
 use Rattle.rules.proofs.Contexts.{context-of, uses-context, bind-context, uses, uses-filled, uses-cover, forth, back, binds, binds-may}
@@ -121,13 +121,13 @@ module _ (bytes : List ℕ) (t : Tables) (g : Signature) where
         (λ e₂.
         let k₂ = split (slot-covers ts (slot-at c h) (type-record ts u .element)) (slot-covers ts (slot-at (after-use c h) l) u) e₂ in
         by-need bytes t g _ _ (may-bind (after-use (after-use c h) l) d)
-        (λ e₃. by-need bytes t g _ _ (leb (price ts u) (c .balance))
+        (λ e₃. by-need bytes t g _ _ (leb (node-cost ts u) (c .balance))
         (λ e₄. rule-onward is-cons
         (λ k. derive-cons is (uses ts c h e (k₂ .0))
         (subst (λ x. Uses (used (context-of ts c) h) l x) is (forth ts c h l (uses ts (after-use c h) l (type-of ts u) (k₂ .1))))
-        (binds-behind c h l d e₃) (leb-true (price ts u) (c .balance) e₄) (in-context bytes t g E k))
+        (binds-behind c h l d e₃) (leb-true (node-cost ts u) (c .balance) e₄) (in-context bytes t g E k))
         (λ r. in-context bytes t g (sym E) (cons-parts positive r .rest)))
-        (λ r. le-leb (price ts u) (c .balance) (cons-parts positive r .pays)))
+        (λ r. le-leb (node-cost ts u) (c .balance) (cons-parts positive r .pays)))
         (λ r. may-behind c h l d (cons-parts positive r .may)))
         (λ r. join (uses-cover ts c h (cons-parts positive r .use-h))
         (uses-cover ts (after-use c h) l (subst (λ x. Uses (context-of ts (after-use c h)) l x) (sym is) (back ts c h l (cons-parts positive r .use-l))))))

@@ -65,8 +65,8 @@ abbrev pub find-empty : Account → ℕ → ℕ → Finding
 find-empty c d t = need BadBinding (may-bind c d) (Onward (with-slot c d (ListOf t)))
 
 -- what a node of the list type with number t costs, and gives back
-abbrev pub price : List NodeType → ℕ → ℕ
-price ts t = 1 + type-record ts t .amount
+abbrev pub node-cost : List NodeType → ℕ → ℕ
+node-cost ts t = 1 + type-record ts t .amount
 
 -- Cons uses a head and a tail, pays for the node, and binds d as the list type t
 abbrev pub find-cons : List NodeType → Account → ℕ → ℕ → ℕ → ℕ → Finding
@@ -74,8 +74,8 @@ find-cons ts c d t h l =
     need EmptySlot (both (is-filled (slot-at c h)) (is-filled (slot-at (after-use c h) l)))
     (need WrongType (both (slot-covers ts (slot-at c h) (type-record ts t .element)) (slot-covers ts (slot-at (after-use c h) l) t))
     (need BadBinding (may-bind (after-use (after-use c h) l) d)
-    (need BalanceTooSmall (leb (price ts t) (c .balance))
-    (Onward (with-slot (with-balance (after-use (after-use c h) l) (c .balance - price ts t)) d (ListOf t))))))
+    (need BalanceTooSmall (leb (node-cost ts t) (c .balance))
+    (Onward (with-slot (with-balance (after-use (after-use c h) l) (c .balance - node-cost ts t)) d (ListOf t))))))
 
 -- a call of g with these slots
 abbrev pub find-call : List NodeType → Signature → Account → ℕ → List ℕ → Finding
@@ -100,7 +100,7 @@ find-opened ts Vacant c h l second = Broken EmptySlot
 find-opened ts Number c h l second = Broken WrongType
 find-opened ts (ListOf t) c h l second =
     need BadBinding (both (not (eqb h l)) (both (may-bind c h) (may-bind c l)))
-    (Forks c second (with-slot (with-slot (with-balance c (c .balance + price ts t)) h (slot-of (type-record ts t .element))) l (ListOf t)))
+    (Forks c second (with-slot (with-slot (with-balance c (c .balance + node-cost ts t)) h (slot-of (type-record ts t .element))) l (ListOf t)))
 
 -- If uses a Number, and both branches start alike
 abbrev pub find-if : List NodeType → Account → ℕ → ℕ → Finding

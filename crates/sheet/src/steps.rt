@@ -105,11 +105,11 @@ pub(crate) fn of_cons(tables: &Tables, mut account: Account, d: u8, t: u8, h: u8
     if !may_bind(&account, d) {
         return Finding::Broken(Cause::BadBinding);
     }
-    let price = 1 + list.amount as u32;
-    if account.balance < price {
+    let cost = 1 + list.amount as u32;
+    if account.balance < cost {
         return Finding::Broken(Cause::BalanceTooSmall);
     }
-    account.balance -= price;
+    account.balance -= cost;
     bind(&mut account, d, Slot::ListOf(t));
     Finding::Onward(account)
 }
