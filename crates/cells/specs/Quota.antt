@@ -16,7 +16,7 @@ use Rattle.cells.specs.Calls.{Takes}
 abbrev pub own-code : ℕ
 own-code = 3
 
--- the limit that a quota keeps: 0 asks for the capacity below, and a limit under the number then held counts as that number
+-- the limit that a quota keeps: 0 asks for the capacity below, and no limit falls short of what is held as the quota is made
 abbrev pub limit-for : ℕ → ℕ → Map → ℕ
 limit-for asked capacity-below m = cond (eqb asked 0) capacity-below (max asked (count m))
 

@@ -121,7 +121,7 @@ pub fn cause_words(cause: Cause) -> &'static str
         Cause::OutOfOrder => "a step before the first function, or a type behind it",
         Cause::NoFunction => "the sheet has no function",
         Cause::TooMany => "more than 32 types or functions",
-        Cause::ElementNotLower => "the element type is not lower than the type's own number",
+        Cause::ElementNotLower => "the element type has not come before",
         Cause::BadSignature => "a count over 4, an unknown type or an FF out of place",
         Cause::BadResult => "the result of function 0 is no list of Number",
         Cause::BodyEnd => "a step behind a body's end, or a body that is not finished",

@@ -60,7 +60,7 @@ find-arith ts c d a b =
     (need BadBinding (may-bind (after-use (after-use c a) b) d)
     (Onward (with-slot (after-use (after-use c a) b) d Number))))
 
--- Empty binds d as the list type t
+-- Empty puts an empty list of type t into d
 abbrev pub find-empty : Account → ℕ → ℕ → Finding
 find-empty c d t = need BadBinding (may-bind c d) (Onward (with-slot c d (ListOf t)))
 

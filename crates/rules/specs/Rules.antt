@@ -23,25 +23,26 @@ parameters ts g = map (type-of ts) (take (g .count) (g .params))
 -- Derives p A m Γ b o r: from the record r at the offset o on, in the context Γ and with the balance b, a branch answers a value
 -- of type A and leaves at least m. What comes behind a step is what is fetched there.
 pub data Derives (p : Program) (A : Ty) (m : ℕ) : Context → ℕ → ℕ → Option Record → Type 0 where
-  -- Const binds d as Number.
+  -- Const: a Number goes into d.
   derive-const : {Γ : Context} {b o d n : ℕ} →
       Binds Γ d →
       Derives p A m (bound Γ d number) b (o + 6) (p .fetched (o + 6)) →
       Derives p A m Γ b o (Some (Step (Const d n)))
-  -- Arith uses the Numbers x and y, and binds d as Number.
+  -- Arith: two Numbers are used, and one goes into d.
   derive-arith : {Γ : Context} {b o d op x y : ℕ} →
       Uses Γ x number →
       Uses (used Γ x) y number →
       Binds (used (used Γ x) y) d →
       Derives p A m (bound (used (used Γ x) y) d number) b (o + 5) (p .fetched (o + 5)) →
       Derives p A m Γ b o (Some (Step (Arith d op x y)))
-  -- Empty binds d as the list type t.
+  -- Empty: a list of type t without nodes goes into d. It costs nothing.
   derive-empty : {Γ : Context} {b o d t a : ℕ} {e : Ty} →
       type-of (p .types) t ≡ list e a →
       Binds Γ d →
       Derives p A m (bound Γ d (list e a)) b (o + 3) (p .fetched (o + 3)) →
       Derives p A m Γ b o (Some (Step (Empty d t)))
-  -- Cons uses h, covering t's element type, and l, covering t; it pays 1 plus t's amount, and binds d as t.
+  -- Cons: the head fits the elements of t, and the tail fits t. The balance pays for the cell of the new node and for what each
+  -- node of t brings along.
   derive-cons : {Γ : Context} {b o d t h l a : ℕ} {e : Ty} →
       type-of (p .types) t ≡ list e a →
       Uses Γ h e →
@@ -50,8 +51,7 @@ pub data Derives (p : Program) (A : Ty) (m : ℕ) : Context → ℕ → ℕ → 
       1 + a ≤ b →
       Derives p A m (bound (used (used Γ h) l) d (list e a)) (b - (1 + a)) (o + 5) (p .fetched (o + 5)) →
       Derives p A m Γ b o (Some (Step (Cons d t h l)))
-  -- Call uses one covering slot for each parameter; it pays the entry amount, then gains the remainder, and binds d as the
-  -- result type.
+  -- Call: each argument fits its parameter. What the function asks at entry is paid before what it leaves is gained.
   derive-call : {Γ Δ : Context} {b o d f : ℕ} {slots : List ℕ} (g : Signature) →
       signature-of (p .functions) f ≡ g →
       Passes Γ (take (g .count) slots) (parameters (p .types) g) Δ →
@@ -59,14 +59,14 @@ pub data Derives (p : Program) (A : Ty) (m : ℕ) : Context → ℕ → ℕ → 
       g .entry ≤ b →
       Derives p A m (bound Δ d (type-of (p .types) (g .result))) (b - g .entry + g .remainder) (o + 7) (p .fetched (o + 7)) →
       Derives p A m Γ b o (Some (Step (Call d f slots)))
-  -- Return uses a, which covers the result type; no slot then has a list, and the balance is at least the remainder.
+  -- Return: the result fits the result type. Every list has been used, and enough is left for the remainder.
   derive-return : {Γ : Context} {b o a : ℕ} →
       Uses Γ a A →
       No-lists (used Γ a) →
       m ≤ b →
       Derives p A m Γ b o (Some (Step (Return a)))
-  -- Match uses a list. The first branch, for the empty list, gains nothing; the second gains 1 plus the amount, and binds h as
-  -- an element and l as the list.
+  -- Match: where the list has a node, the second branch gets its two parts, the cell of the node, and what the node brought along.
+  -- The first branch, where it has none, starts with nothing more.
   derive-match : {Γ : Context} {b o a h l second n : ℕ} {e : Ty} →
       in-slot Γ a ≡ Some (list e n) →
       (h ≡ l → ⊥) →
@@ -75,7 +75,7 @@ pub data Derives (p : Program) (A : Ty) (m : ℕ) : Context → ℕ → ℕ → 
       Derives p A m (used Γ a) b (o + 6) (p .fetched (o + 6)) →
       Derives p A m (bound (bound (used Γ a) h e) l (list e n)) (b + (1 + n)) second (p .fetched second) →
       Derives p A m Γ b o (Some (Step (Match a h l second)))
-  -- If uses a Number, and both branches start alike.
+  -- If: a Number is used, and either branch starts with what is left.
   derive-if : {Γ : Context} {b o a second : ℕ} →
       Uses Γ a number →
       Derives p A m (used Γ a) b (o + 4) (p .fetched (o + 4)) →
