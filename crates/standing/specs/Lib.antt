@@ -1,0 +1,9 @@
+pub mod Located
+pub mod Rows
+pub mod Stepping
+pub mod Standing
+pub mod Inputs
+pub mod Moments
+pub mod Serving
+pub mod Law
+pub mod Calls
