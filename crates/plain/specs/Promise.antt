@@ -16,8 +16,8 @@ pub data While-running (capacity : ℕ) : State → List Request → Type 0 wher
       While-running capacity (running-with s fs) (r ∷ rs)
 
 -- A service that is made, any calls, a fund that is accepted, any calls while the run is on, by which the run has ended with v:
--- then v is a list of Numbers, and the free cells are at least those free at the funding, less the price, plus what v brings along
--- and the remainder of function 0.
+-- then v is a list of Numbers. Of what was free at the funding, no more than the price is gone; and beyond that, what v brings
+-- along and the remainder of function 0 are free.
 abbrev pub A-run-leaves-what-was-promised : Type 0
 A-run-leaves-what-was-promised =
     (capacity : ℕ) (before during : List Request) (s : Sheet) (v : Value) →

@@ -6,7 +6,7 @@ ghost use Rattle.plain.specs.Ready.{Every-step-has-what-it-needs};
 
 // For a sheet that the rules accept: an accepted fund makes a run that is paid for, with the free cells less the price spare;
 // every step keeps it so, with the same cells spare; and so it is after any number of steps. No step is stuck, one that makes a
-// node finds a free cell, one is refused exactly when it is a Call with 64 frames, and the end leaves what the sheet promises.
+// node finds a free cell, only a Call that would open a 65th frame is refused, and the end leaves what the sheet promises.
 pub fn a_funded_run_never_lacks_a_cell() -> u8
     ensures funding { λ _. ⌜ Funding-pays ⌝ }
     ensures steps { λ _. ⌜ Steps-keep-what-is-paid ⌝ }
@@ -22,8 +22,8 @@ pub fn frames_stand_at_steps() -> u8
     0
 }
 
-// On a funded run a step is refused exactly at a Call with 64 frames, and an advance exactly when it comes to such a step with
-// fewer steps made than asked for.
+// Depth alone stops a funded run: a step is refused if and only if it would open a 65th frame, and an advance if and only if it
+// meets such a step before all its steps are made.
 pub fn only_depth_stops_a_run() -> u8
     ensures { λ _. ⌜ Only-depth-stops-a-run ⌝ }
 {

@@ -14,8 +14,8 @@ pub fn a_service_stays_in_order() -> u8
 }
 
 // When a run has just ended, whatever calls were made before its funding and while it was on: the result is a list of Numbers,
-// and the free cells are at least those free at the funding, less the price, plus what the result brings along and the remainder
-// of function 0.
+// and of what was free at the funding no more than the price is gone, while what the result brings along and the remainder of
+// function 0 are free beside it.
 pub fn a_run_leaves_what_was_promised() -> u8
     ensures { λ _. ⌜ A-run-leaves-what-was-promised ⌝ }
 {
