@@ -16,3 +16,5 @@ pub mod Funds
 pub mod Pulls
 pub mod Advances
 pub mod Calls
+pub mod Services
+pub mod Needed

@@ -35,7 +35,7 @@ use Rattle.standing.proofs.Bindings.{word-of-number, nothing-of-number}
 use Rattle.standing.proofs.ForkSteps.{Listed, listed, word-of-empty, nothing-of-empty, A-node, a-node, tail-typed}
 
 -- a list of Numbers has a list type
-numbers-typed : {v : Value} → Numbers v → Has-type (list number 0) v
+pub numbers-typed : {v : Value} → Numbers v → Has-type (list number 0) v
 numbers-typed no-numbers = is-empty
 numbers-typed (one-number l) = is-node is-num (numbers-typed l)
 

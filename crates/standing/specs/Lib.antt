@@ -6,4 +6,6 @@ pub mod Inputs
 pub mod Moments
 pub mod Serving
 pub mod Law
+pub mod Ready
 pub mod Calls
+pub mod Services
