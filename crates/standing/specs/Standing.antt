@@ -50,12 +50,6 @@ pub record Run-stands (ts : List NodeType) (m : Map) (words : List Frame) (value
   pub kept : Kept-frames ts m located
   pub owned : (c : ℕ) → frames-occurrences c located ≡ one-if (m c)
 
--- so it is for a row of slots, and no other cells are held
-pub record Row-stands (ts : List NodeType) (m : Map) (words : List Slot) (R : Row) : Type 0 where
-  pub as-words : row-words R ≡ words
-  pub kept : Kept-row ts m R
-  pub owned : (c : ℕ) → row-occurrences c R ≡ one-if (m c)
-
 -- what a slot has stands for a value, and its cells are all that are held
 pub record Result-stands (ts : List NodeType) (m : Map) (words : Slot) (v : Value) : Type 0 where
   pub located : Located-slot
