@@ -1,4 +1,6 @@
 // A row of 1,024 flags, packed 32 to a word.
+#![tactic(auto)]
+
 ghost use Rattle.std.specs.Prelude.{◌≡◌, ◌^◌, ◌<◌, false, length, replicate, bit_xor};
 ghost use Rattle.bits.specs.Flags.{bit_of, flags, flag, turned, Sought};
 

@@ -1,4 +1,6 @@
 // The label engine over any cell store: its calls, each with its complete outcome. Rests on inner and cells.
+#![tactic(auto)]
+
 mod advancing;
 mod asking;
 mod calling;

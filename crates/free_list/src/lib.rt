@@ -1,3 +1,5 @@
 // The free list: a store in cells that the caller lends.
+#![tactic(auto)]
+
 pub mod lent;
 pub mod list;

@@ -1,4 +1,6 @@
 // The label program: text in, text out, over the proved libraries.
+#![tactic(auto)]
+
 use check_text::report_on;
 use label_text::{HexFault, Verb, fault_words, list, parse_hex};
 use std::alloc::AllocError;

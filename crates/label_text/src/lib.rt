@@ -1,5 +1,7 @@
 // Text in and out of the label program: sheets as hexadecimal text, and records, counts and refusals in words. Rests on
 // `records`.
+#![tactic(auto)]
+
 mod commands;
 mod hexes;
 mod listing;

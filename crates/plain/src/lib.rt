@@ -1,6 +1,8 @@
 // What the service means on values, with no cells: values, the plain reading of a run, and the service over its calls; the law of
 // amounts, that what was paid at funding suffices for the whole run; and the functional reading, that a run computes the value of
 // a function. The definitions stand in specs/. Rests on records and rules.
+#![tactic(auto)]
+
 mod functional;
 mod law;
 mod service;

@@ -1,5 +1,7 @@
 // The records of a label sheet: what they are, how one is cut from the sheet's bytes, and the first round of the check,
 // which cuts them all. Rests on nothing but std.
+#![tactic(auto)]
+
 mod faults;
 mod kinds;
 mod reading;

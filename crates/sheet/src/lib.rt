@@ -1,4 +1,6 @@
 // The check of a label sheet, and the sheet that has passed it. Rests on records and rules.
+#![tactic(auto)]
+
 mod accounts;
 mod calls;
 mod checking;

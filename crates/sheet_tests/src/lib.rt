@@ -1,4 +1,6 @@
 // Tests of the check of a sheet: tables of sheets, the limits, and what an accepted sheet tells. Rests on records and sheet.
+#![tactic(auto)]
+
 #[cfg(test)]
 mod cases;
 #[cfg(test)]

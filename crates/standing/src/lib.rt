@@ -1,5 +1,7 @@
 // What the words of an engine and the cells of a store stand for: values, slots, frames, input and result of the plain service.
 // The definitions stand in specs/; here are the types that they speak of, and the theorems. Rests on cells and plain.
+#![tactic(auto)]
+
 mod frames;
 mod law;
 

@@ -5,8 +5,8 @@ use Rattle.bits.specs.Flags.{flags, flag}
 use Rattle.bits.proofs.Rows.{flags_length, flags_read, bits_read}
 use Rattle.bits.proofs.Flags.is_set.Goals as goal
 
-pub returns-then-at-ge-ROW-WORDS : goal.returns-then-at-ge-ROW-WORDS
-returns-then-at-ge-ROW-WORDS c =
+pub returns-then-at-ge-ROW_WORDS : goal.returns-then-at-ge-ROW_WORDS
+returns-then-at-ge-ROW_WORDS c =
     let words = c.args.self.now.words in
     sym (get_or_past (flags words) c.args.place false (omega (arith, flags_length words, c.args.self.now.long)))
 

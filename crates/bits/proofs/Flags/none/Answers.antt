@@ -4,4 +4,4 @@ use Rattle.bits.proofs.Rows.{flags_of_zeros}
 use Rattle.bits.proofs.Flags.none.Goals as goal
 
 pub returns : goal.returns
-returns c = ap flags c.clear-words.ensures ∙ flags_of_zeros 32
+returns c = ap flags c.clear_words.ensures ∙ flags_of_zeros 32

@@ -11,13 +11,13 @@ pub returns : goal.returns
 returns c =
     let bytes = c.args.bytes.now in
     let place = c.args.place in
-    let r = c.cut-front.result in
+    let r = c.cut_front.result in
     let within = c.requires in
     let rest : take (length bytes - place) (drop place bytes) ≡ drop place bytes = take_rest bytes place in
-    let answer : r ≡ cut (drop place bytes) place = c.cut-front.ensures.answer ∙ ap (λ xs. cut xs place) rest in
-    let fits : moved r ≤ length bytes - place = simp length-drop at (subst (λ xs. moved r ≤ length xs) rest c.cut-front.ensures.fits) in
+    let answer : r ≡ cut (drop place bytes) place = c.cut_front.ensures.answer ∙ ap (λ xs. cut xs place) rest in
+    let fits : moved r ≤ length bytes - place = simp length-drop at (subst (λ xs. moved r ≤ length xs) rest c.cut_front.ensures.fits) in
     record {
       answer = answer;
-      reads = subst (Reads (drop place bytes)) (sym answer) (cut_reads (drop place bytes) place (bytes_drop place bytes (λ i. Fits-lt-pow (c.type-inv.bytes i))));
+      reads = subst (Reads (drop place bytes)) (sym answer) (cut_reads (drop place bytes) place (bytes_drop place bytes (λ i. Fits-lt-pow (c.type_inv.bytes i))));
       fits = omega arith;
     }

@@ -8,7 +8,7 @@ use Rattle.records.proofs.rounds.cut_all.Goals as goal
 
 pub loop-next-preserved : goal.loop-next-preserved
 loop-next-preserved c =
-    let n = c.in-ok-next.ensures in
+    let n = c.in_ok-next.ensures in
     let q : Taken c.args.bytes.now c.loop-next.reader.at c.in-Some.next c.next.new.self.bytes.now c.next.new.self.at =
     taken c.loop-next.invariant.0 n.answer n.moves n.keeps c.next.new.self.inside c.in-Some.is in
     let moves = q.moves in

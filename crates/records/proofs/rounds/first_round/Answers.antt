@@ -7,6 +7,6 @@ use Rattle.records.proofs.rounds.first_round.Goals as goal
 pub returns : goal.returns
 returns c =
     record {
-      verdict = c.cut-all.ensures;
-      sheet = subst (ReadInOneWay c.args.bytes.now) (sym c.cut-all.ensures) (read_in_one_way c.args.bytes.now (λ i. Fits-lt-pow (c.type-inv.bytes i)));
+      verdict = c.cut_all.ensures;
+      sheet = subst (ReadInOneWay c.args.bytes.now) (sym c.cut_all.ensures) (read_in_one_way c.args.bytes.now (λ i. Fits-lt-pow (c.type_inv.bytes i)));
     }
