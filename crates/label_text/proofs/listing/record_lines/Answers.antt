@@ -25,14 +25,14 @@ loop-next-preserved c =
     let inv = c.loop-next.invariant in
     let r : Record = c.in-Some.record in
     let text : List ℕ = string_bytes c.loop-next.text in
-    let line : List ℕ = c.as-str.result.now in
+    let line : List ℕ = c.as_str.result.now in
     let is : line ≡ record_line from (number_behind before r) r =
-    c.as-str.ensures.value ∙ c.in-ok-line.ensures ∙ ap (λ a. record_line a c.number.result r) inv.1 ∙ ap (λ k. record_line from k r) c.number.ensures.answer in (
+    c.as_str.ensures.value ∙ c.in_ok-line.ensures ∙ ap (λ a. record_line a c.number.result r) inv.1 ∙ ap (λ k. record_line from k r) c.number.ensures.answer in (
       q.keeps,
       c.place-at.ensures,
       omega arith,
-      ap (λ e. string_bytes c.push-str.new.self ++ lines (row (drop e bytes) e) c.number.new.self) c.place-at.ensures
-          ∙ one_line_more text (string_bytes c.push-str.new.self) line (row (drop from bytes) from) (row (drop to bytes) to) from r before c.number.new.self
-          c.in-ok-push-str.ensures.bytes is q.opens counts
+      ap (λ e. string_bytes c.push_str.new.self ++ lines (row (drop e bytes) e) c.number.new.self) c.place-at.ensures
+          ∙ one_line_more text (string_bytes c.push_str.new.self) line (row (drop from bytes) from) (row (drop to bytes) to) from r before c.number.new.self
+          c.in_ok-push_str.ensures.bytes is q.opens counts
           ∙ ap (λ a. text ++ lines (row (drop a bytes) a) before) (sym inv.1) ∙ inv.3,
     )

@@ -5,4 +5,4 @@ use Rattle.label_text.proofs.words.call_words.Goals as goal
 pub returns : goal.returns
 returns c =
     made_as c.format.result _ _ c.format.ensures.ok
-    (ap (λ fields. codes "call, d " ++ (decimal c.args.d ++ (codes ", function " ++ (decimal c.args.function ++ (codes ", slots " ++ fields))))) c.in-ok-fields.ensures)
+    (ap (λ fields. codes "call, d " ++ (decimal c.args.d ++ (codes ", function " ++ (decimal c.args.function ++ (codes ", slots " ++ fields))))) c.in_ok-fields.ensures)

@@ -4,4 +4,4 @@ use Rattle.label_text.proofs.Texts.{made_as}
 use Rattle.label_text.proofs.words.record_words.Goals as goal
 
 pub returns-in-Function : goal.returns-in-Function
-returns-in-Function c = made_as c.function-words.result _ _ c.function-words.ensures (sym (ap (words c.args.number) c.in-Function.is))
+returns-in-Function c = made_as c.function_words.result _ _ c.function_words.ensures (sym (ap (words c.args.number) c.in-Function.is))

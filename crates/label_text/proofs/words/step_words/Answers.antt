@@ -7,4 +7,4 @@ pub returns-in-Match : goal.returns-in-Match
 returns-in-Match c = made_as c.format-in-Match.result _ _ c.format-in-Match.ensures.ok (sym (ap step_words c.in-Match.is))
 
 pub returns-in-Call : goal.returns-in-Call
-returns-in-Call c = made_as c.call-words.result _ _ c.call-words.ensures (sym (ap step_words c.in-Call.is))
+returns-in-Call c = made_as c.call_words.result _ _ c.call_words.ensures (sym (ap step_words c.in-Call.is))

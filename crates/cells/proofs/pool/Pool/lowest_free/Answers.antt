@@ -4,11 +4,11 @@ use Rattle.cells.specs.Pool.{marks_of, pool_cells, pool_capacity}
 use Rattle.cells.specs.Places.{marks_long, marked_held, unmarked_unheld, count_all_set, count_one_clear}
 use Rattle.cells.proofs.pool.Pool.lowest_free.Goals as goal
 
-pub overflow-cast-result : goal.overflow-cast-result
-overflow-cast-result c = omega (arith, marks_long c.args.self.now, c.in-Some.ensures.inside)
+pub overflow_cast-result : goal.overflow_cast-result
+overflow_cast-result c = omega (arith, marks_long c.args.self.now, c.in-Some.ensures.inside)
 
-pub overflow-add-result : goal.overflow-add-result
-overflow-add-result c = omega (arith, marks_long c.args.self.now, c.in-Some.ensures.inside)
+pub overflow_add-result : goal.overflow_add-result
+overflow_add-result c = omega (arith, marks_long c.args.self.now, c.in-Some.ensures.inside)
 
 pub returns-in-Some : goal.returns-in-Some
 returns-in-Some c =

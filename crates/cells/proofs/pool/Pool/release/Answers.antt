@@ -6,8 +6,8 @@ use Rattle.cells.proofs.Reasoning.{removal_counts_one_less}
 use Rattle.cells.specs.Places.{marks_long, held_marked, clear_removes, count_within}
 use Rattle.cells.proofs.pool.Pool.release.Goals as goal
 
-pub overflow-sub-self : goal.overflow-sub-self
-overflow-sub-self c =
+pub overflow_sub-self : goal.overflow_sub-self
+overflow_sub-self c =
     let pool = c.args.self.now in
     let marked = held_marked (marks_of pool) pool.rows c.args.number c.requires.held in
     omega (arith, c.requires.ok.counted, removal_counts_one_less (pool_cells pool) c.args.number (omega (arith, marked.1, marks_long pool)) c.requires.held)
