@@ -5,5 +5,6 @@ pub mod Laws
 pub mod Pool
 pub mod Quota
 pub mod Prepend
-pub mod Places
 pub mod Counts
+pub mod Places
+pub mod Bounds

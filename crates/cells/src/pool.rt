@@ -2,9 +2,8 @@
 ghost use Rattle.std.specs.Prelude.{◌≡◌, ◌+◌, ◌≤◌, length, Some};
 ghost use Rattle.cells.specs.Cells.{Held, Unheld, empty, put, without, count};
 ghost use Rattle.cells.specs.Calls.{Takes};
-ghost use Rattle.cells.specs.Pool.{pool_capacity, pool_code, pool_cells, PoolOk, SoughtLowest, ToldWhetherHeld, PoolTook, marks_of};
-ghost use Rattle.std.proofs.Common.{arith, rules};
-ghost use Rattle.cells.specs.Places.{marks_long, numbers_held};
+ghost use Rattle.cells.specs.Pool.{pool_capacity, pool_code, pool_cells, PoolOk, SoughtLowest, ToldWhetherHeld, PoolTook};
+ghost use Rattle.cells.specs.Bounds.{pool_small, pool_numbered};
 
 use super::fault::StoreFault;
 use super::store::{CellStore, Meaning};
@@ -124,11 +123,11 @@ impl Meaning for Pool {
 
     ghost ok = { PoolOk };
 
-    ghost small = { Prim.search rules };
+    ghost small = { λ _ _. pool_small };
 
-    ghost numbered = { λ pool ok. numbers_held (marks_of pool) pool.rows (omega (arith, marks_long pool)) };
+    ghost numbered = { λ pool _. pool_numbered pool };
 
-    ghost within = { Prim.search rules };
+    ghost within = { λ _ ok. ok.within };
 }
 
 impl CellStore for Pool {

@@ -6,7 +6,7 @@ use Rattle.cells.specs.Counts.{count_empty}
 use Rattle.free_list.specs.declared.lent.LentCell.{LentCell}
 use Rattle.free_list.specs.Lent.{cell_at, lent_capacity, number_at, lent_cells}
 use Rattle.free_list.specs.Chain.{Among, Absent, first_word, Chain, InOrder, freed_cell, Rising}
-use Rattle.free_list.proofs.Places.{all_free_empty}
+use Rattle.free_list.specs.Places.{all_free_empty}
 
 -- so many places in rising order
 pub rising_places : ℕ → ℕ → List ℕ

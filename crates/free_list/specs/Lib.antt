@@ -1,3 +1,5 @@
 pub mod Lent
 pub mod Chain
 pub mod Calls
+pub mod Places
+pub mod Bounds

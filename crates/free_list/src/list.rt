@@ -4,6 +4,8 @@ ghost use Rattle.cells.specs.Cells.{last_number, empty};
 ghost use Rattle.cells.specs.Calls.{Takes, Gives, Clears};
 ghost use Rattle.free_list.specs.Lent.{cell_at, lent_capacity, number_at, Sought};
 ghost use Rattle.free_list.specs.Chain.{freed_cell};
+ghost use Rattle.free_list.specs.Places.{numbers_held};
+ghost use Rattle.free_list.specs.Bounds.{lent_small, held_within};
 ghost use Rattle.free_list.specs.Calls.{list_code, lent_to, list_cells, list_capacity, ListOk, Chained, HeadTaken, TookHead, GaveToHead};
 
 use super::lent::LentCell;
@@ -188,6 +190,12 @@ impl Meaning for FreeList<'_> {
     ghost code = { λ _. list_code };
 
     ghost ok = { ListOk };
+
+    ghost small = { λ list _. lent_small (lent_to list) };
+
+    ghost numbered = { λ list _. numbers_held (lent_to list) };
+
+    ghost within = { λ list order. held_within (lent_to list) list.head list.taken order };
 }
 
 impl CellStore for FreeList<'_> {

@@ -7,11 +7,11 @@ use Rattle.label_text.specs.Hexes.{read_on, reading, behind}
 use Rattle.label_text.specs.Parsed.{Low, with_bytes}
 use Rattle.label_text.proofs.Readings.{goes_on, gives_byte, is_strange, is_missing, behind_small, no_more, read_as}
 use Rattle.label_text.proofs.hexes.read_text.Goals as goal
-use Rattle.label_text.proofs.hexes.read_text.Goals.{in-Goes, in_Gives+in_ok_push}
+use Rattle.label_text.proofs.hexes.read_text.Goals.{in-Goes, in-Gives+in_ok-push-in-Gives}
 
-pub returns-in-err-push : goal.returns-in-err-push
-returns-in-err-push c =
-    let p = err_from_is_err_and c.from-residual.result c.from-residual.ensures.1 in rw (p.1, p.2) tt
+pub returns-in_err-push-in-Gives : goal.returns-in_err-push-in-Gives
+returns-in_err-push-in-Gives c =
+    let p = err_from_is_err_and c.from_residual.result c.from_residual.ensures.1 in rw (p.1, p.2) tt
 
 pub returns-in-Strange : goal.returns-in-Strange
 returns-in-Strange c =
@@ -40,11 +40,11 @@ loop-c-preserved c =
         read_as (drop (i + 1) text) (reading text) (ap vec_items w.bytes-is) w.mode-is passed
             (goes_on text (vec_items c.loop-c.bytes) c.loop-c.mode c.loop-c.spot i (reading text) c.loop-c-test.true inv.3 w.in-Goes.next w.in-Goes.ensures.value),
       )
-      | in_Gives+in_ok_push w ↦ (
+      | in-Gives+in_ok-push-in-Gives w ↦ (
         subst Low (sym w.mode-is) tt,
         omega arith,
         omega arith,
-        read_as (drop (i + 1) text) (reading text) (ap vec_items w.bytes-is ∙ w.in-ok-push.ensures.items) w.mode-is passed
+        read_as (drop (i + 1) text) (reading text) (ap vec_items w.bytes-is ∙ w.in_ok-push-in-Gives.ensures.items) w.mode-is passed
             (gives_byte text (vec_items c.loop-c.bytes) c.loop-c.mode c.loop-c.spot i (reading text) c.loop-c-test.true inv.3 w.in-Gives.byte w.in-Gives.ensures.value),
       )
     ]

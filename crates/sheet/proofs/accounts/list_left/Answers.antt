@@ -19,7 +19,7 @@ returns-in-ListOf c =
 pub loop-slot-preserved : goal.loop-slot-preserved
 loop-slot-preserved c =
     let e = at_drop_more any_list c.args.slots.now c.loop-slot.slot-index Vacant (omega arith) in
-    let f = simp (no_list _ c.in-default.not-ListOf) at e in
+    let f = simp (no_list _ c.in_default.not-ListOf) at e in
     cc
 
 pub returns : goal.returns

@@ -12,8 +12,8 @@ bounds-slots-i c = let k = padded_count slot_count c.args.count c.args.slots.now
 pub bounds-params-i : goal.bounds-params-i
 bounds-params-i c = let k = padded_count slot_count c.args.count c.args.slots.now c.requires.right in omega arith
 
-pub use-slot-slot-requires : goal.use-slot-slot-requires
-use-slot-slot-requires c = record { inside = padded_below slot_count c.args.count c.loop-i.i c.args.slots.now c.requires.right (omega arith) }
+pub use_slot-slot-requires : goal.use_slot-slot-requires
+use_slot-slot-requires c = record { inside = padded_below slot_count c.args.count c.loop-i.i c.args.slots.now c.requires.right (omega arith) }
 
 pub loop-i-preserved : goal.loop-i-preserved
 loop-i-preserved c =
@@ -22,16 +22,16 @@ loop-i-preserved c =
     let xs = c.args.slots.now in
     let ps = c.args.params.now in
     let k = padded_count slot_count n xs c.requires.right in
-    let es = c.use-slot-slot.ensures.answer in
-    let el = c.use-slot-slot.ensures.after in
+    let es = c.use_slot-slot.ensures.answer in
+    let el = c.use_slot-slot.ensures.after in
     let ed = front_here n i xs (omega arith) k in
     let ep = front_here n i ps (omega arith) (omega arith) in (
-      turn_filled c.loop-i.left c.use-slot-slot.new.account c.use-slot-slot.result (get_or xs i 0) es el (drop i (take n xs)) (drop (i + 1) (take n xs)) ed
-          c.loop-i.filled c.both-filled.result (c.both-filled.ensures ∙ ap (λ b. both c.loop-i.filled b) c.is-filled.ensures) ∙ c.loop-i.invariant.0,
-      turn_cover c.loop-i.left c.use-slot-slot.new.account c.use-slot-slot.result (get_or xs i 0) es el (drop i (take n xs)) (drop (i + 1) (take n xs)) ed
+      turn_filled c.loop-i.left c.use_slot-slot.new.account c.use_slot-slot.result (get_or xs i 0) es el (drop i (take n xs)) (drop (i + 1) (take n xs)) ed
+          c.loop-i.filled c.both-filled.result (c.both-filled.ensures ∙ ap (λ b. both c.loop-i.filled b) c.is_filled.ensures) ∙ c.loop-i.invariant.0,
+      turn_cover c.loop-i.left c.use_slot-slot.new.account c.use_slot-slot.result (get_or xs i 0) es el (drop i (take n xs)) (drop (i + 1) (take n xs)) ed
           (types_of c.args.tables.now) (get_or ps i 0) (drop i (take n ps)) (drop (i + 1) (take n ps)) ep
-          c.loop-i.covering c.both-covering.result (c.both-covering.ensures ∙ ap (λ b. both c.loop-i.covering b) c.slot-covers.ensures) ∙ c.loop-i.invariant.1,
-      turn_behind c.loop-i.left c.use-slot-slot.new.account c.use-slot-slot.result (get_or xs i 0) es el (drop i (take n xs)) (drop (i + 1) (take n xs)) ed ∙ c.loop-i.invariant.2,
+          c.loop-i.covering c.both-covering.result (c.both-covering.ensures ∙ ap (λ b. both c.loop-i.covering b) c.slot_covers.ensures) ∙ c.loop-i.invariant.1,
+      turn_behind c.loop-i.left c.use_slot-slot.new.account c.use_slot-slot.result (get_or xs i 0) es el (drop i (take n xs)) (drop (i + 1) (take n xs)) ed ∙ c.loop-i.invariant.2,
     )
 
 pub returns : goal.returns

@@ -6,12 +6,12 @@ use Rattle.sheet.proofs.checking.made.Goals as goal
 
 pub copied-copy-requires : goal.copied-copy-requires
 copied-copy-requires c =
-    record { short = ((check_accepts_what_the_rules_derive c.args.bytes.now (tables_of c.in-ok-tables.tables)).0 (sym c.in-ok-tables.ensures.verdict)).form.short }
+    record { short = ((check_accepts_what_the_rules_derive c.args.bytes.now (tables_of c.in_ok-tables.tables)).0 (sym c.in_ok-tables.ensures.verdict)).form.short }
 
-pub invariant-of-result : goal.invariant-of-result
-invariant-of-result c =
-    let l = (check_accepts_what_the_rules_derive c.args.bytes.now (tables_of c.in-ok-tables.tables)).0 (sym c.in-ok-tables.ensures.verdict) in
-    let s = c.in-ok-tables.ensures.sized in (
+pub invariant_of-result : goal.invariant_of-result
+invariant_of-result c =
+    let l = (check_accepts_what_the_rules_derive c.args.bytes.now (tables_of c.in_ok-tables.tables)).0 (sym c.in_ok-tables.ensures.verdict) in
+    let s = c.in_ok-tables.ensures.sized in (
       l.form.short,
       (
         s.few,
@@ -21,7 +21,7 @@ invariant-of-result c =
             s.few_functions,
             (
               s.defined,
-              (subst (λ bytes. IsLawful bytes c.in-ok-tables.tables) (sym c.copied-copy.ensures.same) ∣ l ∣₁, tt),
+              (subst (λ bytes. IsLawful bytes c.in_ok-tables.tables) (sym c.copied-copy.ensures.same) ∣ l ∣₁, tt),
             ),
           ),
         ),

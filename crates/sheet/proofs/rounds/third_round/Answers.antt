@@ -10,14 +10,14 @@ use Rattle.sheet.proofs.rounds.third_round.Goals as goal
 
 pub bodies-preserved-in-ListType : goal.bodies-preserved-in-ListType
 bodies-preserved-in-ListType c =
-    let n = c.in-ok-first.ensures in
+    let n = c.in_ok-first.ensures in
     let q : Taken c.args.bytes.now c.bodies.reader.at (ListType c.in-ListType.field-0) c.next.new.self.bytes.now c.next.new.self.at =
     taken c.bodies.invariant.0 n.answer n.moves n.keeps c.next.new.self.inside (c.in-Some.is ∙ ap Some c.in-ListType.is) in
     (q.keeps, turn_type (tables_of c.args.tables.now) c.args.bytes.now c.next.new.self.bytes.now c.bodies.reader.at c.next.new.self.at c.bodies.invariant.1 c.in-ListType.field-0 q)
 
 pub branches-init : goal.branches-init
 branches-init c =
-    let n = c.in-ok-first.ensures in
+    let n = c.in_ok-first.ensures in
     let q : Taken c.args.bytes.now c.bodies.reader.at (Function c.in-Function.function) c.next.new.self.bytes.now c.next.new.self.at =
     taken c.bodies.invariant.0 n.answer n.moves n.keeps c.next.new.self.inside (c.in-Some.is ∙ ap Some c.in-Function.is) in
     turn_function (tables_of c.args.tables.now) c.args.bytes.now c.next.new.self.bytes.now c.bodies.reader.at c.next.new.self.at c.bodies.invariant.1
@@ -27,7 +27,7 @@ branches-init c =
 
 pub records-preserved-in-Onward : goal.records-preserved-in-Onward
 records-preserved-in-Onward c =
-    let n = c.in-ok-record.ensures in
+    let n = c.in_ok-record.ensures in
     let q : Taken c.args.bytes.now c.records.reader.at (Step c.in-Step-record.step) c.next-in-records.new.self.bytes.now c.next-in-records.new.self.at =
     taken c.records.invariant.same_bytes n.answer n.moves n.keeps c.next-in-records.new.self.inside (c.in-Some-2.is ∙ ap Some c.in-Step-record.is) in
     turn_onward (tables_of c.args.tables.now) c.args.bytes.now c.next-in-records.new.self.bytes.now c.records.reader.at c.next-in-records.new.self.at
@@ -41,7 +41,7 @@ push-requires c =
 
 pub records-preserved : goal.records-preserved
 records-preserved c =
-    let n = c.in-ok-record.ensures in
+    let n = c.in_ok-record.ensures in
     let q : Taken c.args.bytes.now c.records.reader.at (Step c.in-Step-record.step) c.next-in-records.new.self.bytes.now c.next-in-records.new.self.at =
     taken c.records.invariant.same_bytes n.answer n.moves n.keeps c.next-in-records.new.self.inside (c.in-Some-2.is ∙ ap Some c.in-Step-record.is) in
     let room = fork_has_room (tables_of c.args.tables.now) c.requires.sized.lower c.in-Function.function c.records.stack.count c.records.account
@@ -55,19 +55,19 @@ records-preserved c =
 
 pub bodies-preserved : goal.bodies-preserved
 bodies-preserved c =
-    let n = c.in-ok-record.ensures in
+    let n = c.in_ok-record.ensures in
     let q : Taken c.args.bytes.now c.records.reader.at (Step c.in-Step-record.step) c.next-in-records.new.self.bytes.now c.next-in-records.new.self.at =
     taken c.records.invariant.same_bytes n.answer n.moves n.keeps c.next-in-records.new.self.inside (c.in-Some-2.is ∙ ap Some c.in-Step-record.is) in (
       q.keeps,
       turn_last (tables_of c.args.tables.now) c.args.bytes.now c.next-in-records.new.self.bytes.now c.records.reader.at c.next-in-records.new.self.at
           c.in-Function.function c.records.account (stacked c.records.stack.items c.records.stack.count) c.records.stack.count c.in-Step-record.step
           c.records.reader.bytes.now c.branches.reader.at c.records.invariant q c.in-Ends.ensures.finding
-          (top_none (stacked c.records.stack.items c.records.stack.count) c.in-default-pop.ensures.answer),
+          (top_none (stacked c.records.stack.items c.records.stack.count) c.in_default-pop.ensures.answer),
     )
 
 pub returns-then-waiting-here : goal.returns-then-waiting-here
 returns-then-waiting-here c =
-    let n = c.in-ok-record.ensures in
+    let n = c.in_ok-record.ensures in
     let q : Taken c.args.bytes.now c.records.reader.at (Step c.in-Step-record.step) c.next-in-records.new.self.bytes.now c.next-in-records.new.self.at =
     taken c.records.invariant.same_bytes n.answer n.moves n.keeps c.next-in-records.new.self.inside (c.in-Some-2.is ∙ ap Some c.in-Step-record.is) in
     turn_wrong (tables_of c.args.tables.now) c.args.bytes.now c.next-in-records.new.self.bytes.now c.records.reader.at c.next-in-records.new.self.at
@@ -78,7 +78,7 @@ returns-then-waiting-here c =
 
 pub branches-preserved : goal.branches-preserved
 branches-preserved c =
-    let n = c.in-ok-record.ensures in
+    let n = c.in_ok-record.ensures in
     let q : Taken c.args.bytes.now c.records.reader.at (Step c.in-Step-record.step) c.next-in-records.new.self.bytes.now c.next-in-records.new.self.at =
     taken c.records.invariant.same_bytes n.answer n.moves n.keeps c.next-in-records.new.self.inside (c.in-Some-2.is ∙ ap Some c.in-Step-record.is) in
     let k = turn_second (tables_of c.args.tables.now) c.args.bytes.now c.next-in-records.new.self.bytes.now c.records.reader.at c.next-in-records.new.self.at

@@ -4,7 +4,7 @@ use Rattle.cells.proofs.Reasoning.{removal_counts_one_less}
 use Rattle.free_list.specs.declared.lent.LentCell.{LentCell}
 use Rattle.free_list.specs.Lent.{cell_at, lent_capacity, lent_cells}
 use Rattle.free_list.specs.Chain.{freed_cell}
-use Rattle.free_list.proofs.Places.{marked_held, written}
+use Rattle.free_list.specs.Places.{marked_held, written}
 use Rattle.free_list.proofs.Chains.{same_order, capacity_written, given_in_order}
 use Rattle.free_list.proofs.list.FreeList.give_to_head.Goals as goal
 

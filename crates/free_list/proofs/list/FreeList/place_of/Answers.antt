@@ -1,5 +1,5 @@
 use Rattle.std.proofs.Common.{⊎_elim, arith}
-use Rattle.free_list.proofs.Places.{zero_unheld, past_unheld}
+use Rattle.free_list.specs.Places.{zero_unheld, past_unheld}
 use Rattle.free_list.proofs.list.FreeList.place_of.Goals as goal
 
 pub returns-then-number-eq0 : goal.returns-then-number-eq0

@@ -5,7 +5,7 @@ use Rattle.cells.proofs.Reasoning.{put_counts_one_more}
 use Rattle.free_list.specs.Lent.{lent_capacity, lent_cells}
 use Rattle.free_list.specs.Chain.{first_word}
 use Rattle.free_list.specs.Calls.{marked_cell}
-use Rattle.free_list.proofs.Places.{free_unheld, written}
+use Rattle.free_list.specs.Places.{free_unheld, written}
 use Rattle.free_list.proofs.Chains.{same_order, capacity_written, no_head, head_leads, taken_in_order}
 use Rattle.free_list.proofs.list.FreeList.take_head.Goals as goal
 
@@ -28,8 +28,8 @@ returns-then-self-eq-END c =
       head = (refl, record { same_lent = refl; same_head = refl });
     }
 
-pub hold-head-requires : goal.hold-head-requires
-hold-head-requires c =
+pub hold_head-requires : goal.hold_head-requires
+hold_head-requires c =
     let list = c.args.self.now in
     let order = c.requires in
     let leads = head_leads list.cells.now list.taken list.head order.places order.chain c.if-self-eq-END.false order.others_held in
@@ -49,11 +49,11 @@ returns c =
     written lent place (marked_cell words) leads.0.inside ∙ ap (λ k. put (lent_cells lent) k words) (sym leads.0.its_number) in
     let more : count (lent_cells (set lent place (marked_cell words))) ≡ count (lent_cells lent) + 1 =
     ap count held_after ∙ put_counts_one_more (lent_cells lent) list.head words (omega (arith, leads.0.its_number)) unheld_before in
-    let after = c.hold-head.new.self in
-    let number : ℕ = c.hold-head.result in
-    let done = c.hold-head.ensures.took in
+    let after = c.hold_head.new.self in
+    let number : ℕ = c.hold_head.result in
+    let done = c.hold_head.ensures.took in
     record {
-      ok = same_order (set lent place (marked_cell words)) after.cells.now (first_word lent place) after.head (list.taken + 1) after.taken done.one_written done.next_head c.hold-head.ensures.one_more
+      ok = same_order (set lent place (marked_cell words)) after.cells.now (first_word lent place) after.head (list.taken + 1) after.taken done.one_written done.next_head c.hold_head.ensures.one_more
           (taken_in_order lent list.taken list.head words c.if-self-eq-END.false order (omega (arith, order.counted, more)));
       took = subst (λ (n : ℕ). Placed (lent_cells lent) (lent_capacity lent) words n (lent_cells after.cells.now) (lent_capacity after.cells.now)) (sym done.the_head) (record {
         room = omega (arith, order.counted, leads.1);

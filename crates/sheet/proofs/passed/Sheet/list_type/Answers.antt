@@ -8,7 +8,7 @@ use Rattle.rules.proofs.Entries.{record_within}
 use Rattle.sheet.specs.Held.{types_of}
 use Rattle.sheet.specs.Sheets.{list_type_at}
 use Rattle.sheet.proofs.passed.Sheet.list_type.Goals as goal
-use Rattle.sheet.proofs.passed.Sheet.list_type.Goals.{then-t-eq0-via-then-t-eq0, then_t_eq0_via_else_t_eq0+then_t_self}
+use Rattle.sheet.proofs.passed.Sheet.list_type.Goals.{then-t-eq0-via-then-t-eq0, then-t-eq0-via-else-t-eq0+then-t-self}
 
 none_zero : (ts : List NodeType) (t : ℕ) → t ≡ 0 → None ≡ list_type_at ts t
 none_zero ts t e = ap {B = Option NodeType} (λ b. cond (both b (leb t (length ts))) (Some (type_record ts t)) None) (sym (le-ltb 0 t (omega arith)))
@@ -28,7 +28,7 @@ returns-then-t-eq0 c =
     let l = c.args.self.now.types in
     elim c.then-t-eq0.branch [
       | then-t-eq0-via-then-t-eq0 w ↦ none_zero (types_of c.args.self.now.tables) c.args.t w.if-t-eq0.true
-      | then_t_eq0_via_else_t_eq0+then_t_self w ↦ none_past (types_of c.args.self.now.tables) c.args.t (omega arith) (omega arith)
+      | then-t-eq0-via-else-t-eq0+then-t-self w ↦ none_past (types_of c.args.self.now.tables) c.args.t (omega arith) (omega arith)
     ]
 
 pub returns : goal.returns

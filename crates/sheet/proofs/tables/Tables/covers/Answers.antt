@@ -12,13 +12,13 @@ returns-then-lower-eq0 c =
 
 pub returns-then-a-b : goal.returns-then-a-b
 returns-then-a-b c =
-    sym (covers_short (types_of c.args.self.now) c.requires.sized.lower c.elements.upper c.elements.lower _ _ c.type-record-a.ensures c.type-record-b.ensures
+    sym (covers_short (types_of c.args.self.now) c.requires.sized.lower c.elements.upper c.elements.lower _ _ c.type_record-a.ensures c.type_record-b.ensures
     (omega arith) (omega arith) (omega arith)) ∙ c.elements.invariant
 
 pub elements-preserved : goal.elements-preserved
 elements-preserved c =
-    sym (covers_enough (types_of c.args.self.now) c.requires.sized.lower c.elements.upper c.elements.lower _ _ c.type-record-a.ensures c.type-record-b.ensures
+    sym (covers_enough (types_of c.args.self.now) c.requires.sized.lower c.elements.upper c.elements.lower _ _ c.type_record-a.ensures c.type_record-b.ensures
     (omega arith) (omega arith) (omega arith)) ∙ c.elements.invariant
 
 pub elements-smaller : goal.elements-smaller
-elements-smaller c = element_falls (types_of c.args.self.now) c.requires.sized.lower c.elements.upper c.elements.lower _ _ c.type-record-a.ensures c.type-record-b.ensures (omega arith)
+elements-smaller c = element_falls (types_of c.args.self.now) c.requires.sized.lower c.elements.upper c.elements.lower _ _ c.type_record-a.ensures c.type_record-b.ensures (omega arith)

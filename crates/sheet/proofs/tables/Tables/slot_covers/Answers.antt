@@ -15,10 +15,10 @@ returns-then-t-eq0 c =
 pub returns-else-own-wanted : goal.returns-else-own-wanted
 returns-else-own-wanted c =
     c.covers.ensures
-    ∙ sym (list_enough (types_of c.args.self.now) c.requires.sized.lower c.in-ListOf.s c.args.t _ _ c.type-record-own.ensures c.type-record-wanted.ensures (omega arith) (omega arith))
+    ∙ sym (list_enough (types_of c.args.self.now) c.requires.sized.lower c.in-ListOf.s c.args.t _ _ c.type_record-own.ensures c.type_record-wanted.ensures (omega arith) (omega arith))
     ∙ ap (λ x. slot_covers (types_of c.args.self.now) x c.args.t) (sym c.in-ListOf.is)
 
 pub returns-then-own-wanted : goal.returns-then-own-wanted
 returns-then-own-wanted c =
-    sym (list_short (types_of c.args.self.now) c.requires.sized.lower c.in-ListOf.s c.args.t _ _ c.type-record-own.ensures c.type-record-wanted.ensures (omega arith) (omega arith))
+    sym (list_short (types_of c.args.self.now) c.requires.sized.lower c.in-ListOf.s c.args.t _ _ c.type_record-own.ensures c.type_record-wanted.ensures (omega arith) (omega arith))
     ∙ ap (λ x. slot_covers (types_of c.args.self.now) x c.args.t) (sym c.in-ListOf.is)
