@@ -11,19 +11,12 @@ copied-copy-requires c =
 pub invariant_of-result : goal.invariant_of-result
 invariant_of-result c =
     let l = (check_accepts_what_the_rules_derive c.args.bytes.now (tables_of c.in_ok-tables.tables)).0 (sym c.in_ok-tables.ensures.verdict) in
-    let s = c.in_ok-tables.ensures.sized in (
-      l.form.short,
-      (
-        s.few,
-        (
-          s.listed,
-          (
-            s.few_functions,
-            (
-              s.defined,
-              (subst (λ bytes. IsLawful bytes c.in_ok-tables.tables) (sym c.copied-copy.ensures.same) ∣ l ∣₁, tt),
-            ),
-          ),
-        ),
-      ),
-    )
+    let s = c.in_ok-tables.ensures.sized in
+    record {
+      short = l.form.short;
+      listed = s.few;
+      types = s.listed;
+      defined = s.few_functions;
+      functions = s.defined;
+      lawful = subst (λ bytes. IsLawful bytes c.in_ok-tables.tables) (sym c.copied-copy.ensures.same) ∣ l ∣₁;
+    }
