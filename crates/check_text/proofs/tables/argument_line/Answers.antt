@@ -6,4 +6,4 @@ pub returns : goal.returns
 returns c =
     made_as c.format.result _ _ c.format.ensures.ok
     (ap (λ amounts. codes "argument " ++ (decimal c.args.i ++ (codes " of type " ++ (decimal c.args.t ++ (codes " asks for each node, from the outermost list in:" ++ (amounts ++ codes "\n"))))))
-    c.in-ok-amounts.ensures)
+    c.in_ok-amounts.ensures)

@@ -15,9 +15,9 @@ loop-i-preserved c =
     let less = c.loop-i-test.true in
     let left : 4 - c.loop-i.i ≡ suc (4 - (c.loop-i.i + 1)) = omega arith in
     entry_more (parameter_at c.args.signature.now) (argument_line (sheet_tables c.args.sheet.now).types) (λ j _. j + 1) (string_bytes c.loop-i.text) (argument_lines (sheet_tables c.args.sheet.now).types c.args.signature.now) (4 - c.loop-i.i) c.loop-i.i c.loop-i.invariant
-    (string_bytes c.push-str.new.self) c.as-str.result.now (4 - (c.loop-i.i + 1)) (c.loop-i.i + 1) (get_or c.args.signature.now.params c.loop-i.i 0) left refl
+    (string_bytes c.push_str.new.self) c.as_str.result.now (4 - (c.loop-i.i + 1)) (c.loop-i.i + 1) (get_or c.args.signature.now.params c.loop-i.i 0) left refl
     (cond-true (ltb c.loop-i.i c.args.signature.now.count) _ _ (lt-ltb c.loop-i.i c.args.signature.now.count c.if-i-signature.false))
-    c.in-ok-push-str.ensures.bytes (c.as-str.ensures.value ∙ c.in-ok-line.ensures)
+    c.in_ok-push_str.ensures.bytes (c.as_str.ensures.value ∙ c.in_ok-line.ensures)
 
 pub returns : goal.returns
 returns c =

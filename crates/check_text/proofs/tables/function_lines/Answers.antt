@@ -4,10 +4,10 @@ use Rattle.check_text.specs.Reports.{function_line, function_lines}
 use Rattle.check_text.proofs.Tabled.{entry_more, entry_missing, table_full}
 use Rattle.check_text.proofs.tables.function_lines.Goals as goal
 
-pub returns-in-default : goal.returns-in-default
-returns-in-default c =
+pub returns-in_default : goal.returns-in_default
+returns-in_default c =
     entry_missing (function_at (sheet_tables c.args.sheet.now).functions) function_line (λ j _. j + 1) (string_bytes c.loop-i.text) (function_lines (sheet_tables c.args.sheet.now).functions)
-    (32 - c.loop-i.i) c.loop-i.i c.loop-i.invariant (sym c.function.ensures ∙ c.in-default.is)
+    (32 - c.loop-i.i) c.loop-i.i c.loop-i.invariant (sym c.function.ensures ∙ c.in_default.is)
 
 pub loop-i-preserved : goal.loop-i-preserved
 loop-i-preserved c =
@@ -16,8 +16,8 @@ loop-i-preserved c =
     let next : (c.loop-i.i + 1) ≡ c.loop-i.i + 1 = omega arith in
     entry_more (function_at (sheet_tables c.args.sheet.now).functions) function_line (λ j _. j + 1) (string_bytes c.loop-i.text) (function_lines (sheet_tables c.args.sheet.now).functions)
     (32 - c.loop-i.i) c.loop-i.i c.loop-i.invariant
-    (string_bytes c.push-str.new.self) c.as-str.result.now (32 - (c.loop-i.i + 1)) ((c.loop-i.i + 1)) c.in-Some.entry left next
-    (sym c.function.ensures ∙ c.in-Some.is) c.in-ok-push-str.ensures.bytes (c.as-str.ensures.value ∙ c.in-ok-line.ensures)
+    (string_bytes c.push_str.new.self) c.as_str.result.now (32 - (c.loop-i.i + 1)) ((c.loop-i.i + 1)) c.in-Some.entry left next
+    (sym c.function.ensures ∙ c.in-Some.is) c.in_ok-push_str.ensures.bytes (c.as_str.ensures.value ∙ c.in_ok-line.ensures)
 
 pub returns : goal.returns
 returns c =

@@ -7,7 +7,7 @@ use Rattle.check_text.proofs.tables.type_lines.Goals as goal
 pub returns-in-default : goal.returns-in-default
 returns-in-default c =
     entry_missing (list_type_at (sheet_tables c.args.sheet.now).types) type_line (λ j _. j + 1) (string_bytes c.loop-i.text) (type_lines (sheet_tables c.args.sheet.now).types)
-    (32 - c.loop-i.i) (c.loop-i.i + 1) c.loop-i.invariant (sym c.list-type.ensures ∙ c.in-default.is)
+    (32 - c.loop-i.i) (c.loop-i.i + 1) c.loop-i.invariant (sym c.list_type.ensures ∙ c.in_default.is)
 
 pub loop-i-preserved : goal.loop-i-preserved
 loop-i-preserved c =
@@ -16,8 +16,8 @@ loop-i-preserved c =
     let next : (c.loop-i.i + 1) + 1 ≡ c.loop-i.i + 1 + 1 = omega arith in
     entry_more (list_type_at (sheet_tables c.args.sheet.now).types) type_line (λ j _. j + 1) (string_bytes c.loop-i.text) (type_lines (sheet_tables c.args.sheet.now).types)
     (32 - c.loop-i.i) (c.loop-i.i + 1) c.loop-i.invariant
-    (string_bytes c.push-str.new.self) c.as-str.result.now (32 - (c.loop-i.i + 1)) ((c.loop-i.i + 1) + 1) c.in-Some.node left next
-    (sym c.list-type.ensures ∙ c.in-Some.is) c.in-ok-push-str.ensures.bytes (c.as-str.ensures.value ∙ c.in-ok-line.ensures)
+    (string_bytes c.push_str.new.self) c.as_str.result.now (32 - (c.loop-i.i + 1)) ((c.loop-i.i + 1) + 1) c.in-Some.node left next
+    (sym c.list_type.ensures ∙ c.in-Some.is) c.in_ok-push_str.ensures.bytes (c.as_str.ensures.value ∙ c.in_ok-line.ensures)
 
 pub returns : goal.returns
 returns c =

@@ -7,9 +7,9 @@ pub returns : goal.returns
 returns g c =
     let M = g.S.Meaning in
     let e = c.args.self.now in
-    let f = c.drop-all.new.self in
-    let v = c.requires.in-service in
-    let d = c.drop-all.ensures in
+    let f = c.drop_all.new.self in
+    let v = c.requires.in_service in
+    let d = c.drop_all.ensures in
     call_made M e f _ _ (g.S.Meaning.numbered e.store v.ok) (g.S.Meaning.within e.store v.ok) v
     (record {
       ok = d.ok;

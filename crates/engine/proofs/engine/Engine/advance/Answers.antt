@@ -8,15 +8,15 @@ use Rattle.engine.specs.Rows.{Advanced}
 use Rattle.engine.proofs.Rows.{none_passed, one_passed, Passed, excluded_advance, full_advance, ended_advance, refused_advance}
 use Rattle.engine.proofs.engine.Engine.advance.Goals as goal
 
-pub returns-in-default : goal.returns-in-default
-returns-in-default g c =
+pub returns-in_default : goal.returns-in_default
+returns-in_default g c =
     let e = c.args.self.now in
-    let v = c.requires.in-service in
-    let both = excluded_advance g.S.Meaning c.args.n e (g.S.Meaning.numbered e.store v.ok) (g.S.Meaning.within e.store v.ok) v c.in-default.not-Running in
+    let v = c.requires.in_service in
+    let both = excluded_advance g.S.Meaning c.args.n e (g.S.Meaning.numbered e.store v.ok) (g.S.Meaning.within e.store v.ok) v c.in_default.not-Running in
     record { made = both.0; row = both.1 }
 
 pub loop-made-init : goal.loop-made-init
-loop-made-init g c = (c.requires.in-service, c.in-Running.is, omega arith, none_passed g.S.Meaning c.args.n c.args.self.now)
+loop-made-init g c = (c.requires.in_service, c.in-Running.is, omega arith, none_passed g.S.Meaning c.args.n c.args.self.now)
 
 pub loop-made-preserved : goal.loop-made-preserved
 loop-made-preserved g c =
@@ -37,7 +37,7 @@ pub returns-in-Ends : goal.returns-in-Ends
 returns-in-Ends g c =
     let M = g.S.Meaning in
     let e = c.args.self.now in
-    let v = c.requires.in-service in
+    let v = c.requires.in_service in
     let inv = c.loop-made.invariant in
     let t = c.in-Ends.ensures in
     let f = c.turn.new.self in
@@ -53,7 +53,7 @@ pub returns-in-Stops : goal.returns-in-Stops
 returns-in-Stops g c =
     let M = g.S.Meaning in
     let e = c.args.self.now in
-    let v = c.requires.in-service in
+    let v = c.requires.in_service in
     let inv = c.loop-made.invariant in
     let t = c.in-Stops.ensures in
     let f = c.turn.new.self in
@@ -69,7 +69,7 @@ pub returns : goal.returns
 returns g c =
     let M = g.S.Meaning in
     let e = c.args.self.now in
-    let v = c.requires.in-service in
+    let v = c.requires.in_service in
     let inv = c.loop-made.invariant in
     let few = inv.2 in
     let both =

@@ -14,8 +14,8 @@ loop-k-preserved g c =
     let a = c.requires.kept.inputs in
     let b = c.requires.kept.few_inputs in
     let few : i.entered ≤ length i.inputs = omega arith in (
-      length-set c.loop-k.slots k c.slot-of.result ∙ c.loop-k.invariant.0,
-      ap (λ y. moved_in (k + 1) (map (λ (x : Input). as_slot x.of x.word) (drop (k + 1) (take i.entered i.inputs))) (set c.loop-k.slots k y)) c.slot-of.ensures ∙
+      length-set c.loop-k.slots k c.slot_of.result ∙ c.loop-k.invariant.0,
+      ap (λ y. moved_in (k + 1) (map (λ (x : Input). as_slot x.of x.word) (drop (k + 1) (take i.entered i.inputs))) (set c.loop-k.slots k y)) c.slot_of.ensures ∙
           (moved_more no_input (λ (x : Input). as_slot x.of x.word) i.inputs c.loop-k.slots i.entered k c.loop-k-test.true few ∙ c.loop-k.invariant.1),
     )
 

@@ -5,8 +5,8 @@ use Rattle.inner.proofs.Stacks.{newest_more}
 use Rattle.inner.proofs.Prices.{brought_grows}
 use Rattle.engine.proofs.engine.Engine.brought.Goals as goal
 
-pub overflow-add-sum : goal.overflow-add-sum
-overflow-add-sum g c =
+pub overflow_add-sum : goal.overflow_add-sum
+overflow_add-sum g c =
     let xs = c.args.self.now.inner.inputs in
     let k = c.loop-k.k in
     let next = ap brought (newest_more no_input xs k) in

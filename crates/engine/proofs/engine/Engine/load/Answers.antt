@@ -7,14 +7,14 @@ pub returns : goal.returns
 returns g c =
     let M = g.S.Meaning in
     let e = c.args.self.now in
-    let f = c.load-sheet.new.self in
-    let v = c.requires.in-service in
-    let d = c.load-sheet.ensures in
+    let f = c.load_sheet.new.self in
+    let v = c.requires.in_service in
+    let d = c.load_sheet.ensures in
     call_made M e f _ _ (g.S.Meaning.numbered e.store v.ok) (g.S.Meaning.within e.store v.ok) v
     (record {
       ok = d.ok;
       capacity = d.capacity;
       does =
           load_does (capacity_of M e) (cells_of M e) e.inner v.serving.kept v.serving.fits (cells_of M f) f.inner c.args.bytes.now
-          c.load-sheet.result d.outcome;
+          c.load_sheet.result d.outcome;
     })

@@ -40,43 +40,43 @@ small_size (Return a) = omega arith
 small_size (Match a h l second) = omega arith
 small_size (If a second) = omega arith
 
-pub overflow-add-next : goal.overflow-add-next
-overflow-add-next g c =
-    let f = found g c.args.self.now c.args.step c.requires.in-service c.requires.due in
+pub overflow_add-next : goal.overflow_add-next
+overflow_add-next g c =
+    let f = found g c.args.self.now c.args.step c.requires.in_service c.requires.due in
     let p = f.place in
     let q = small_size c.args.step in
     let r = c.size.ensures in
     omega arith
 
 pub constant-requires : goal.constant-requires
-constant-requires g c = record { slots = ranges g c.args.self.now c.args.step _ c.requires.in-service c.requires.due c.in-Const.is }
+constant-requires g c = record { slots = ranges g c.args.self.now c.args.step _ c.requires.in_service c.requires.due c.in-Const.is }
 
 pub arith-requires : goal.arith-requires
 arith-requires g c =
-    let f = ranges g c.args.self.now c.args.step _ c.requires.in-service c.requires.due c.in-Arith.is in
+    let f = ranges g c.args.self.now c.args.step _ c.requires.in_service c.requires.due c.in-Arith.is in
     record { slots = (f.0, f.2, f.3) }
 
-pub no-nodes-requires : goal.no-nodes-requires
-no-nodes-requires g c = record { slots = (ranges g c.args.self.now c.args.step _ c.requires.in-service c.requires.due c.in-Empty.is).0 }
+pub no_nodes-requires : goal.no_nodes-requires
+no_nodes-requires g c = record { slots = (ranges g c.args.self.now c.args.step _ c.requires.in_service c.requires.due c.in-Empty.is).0 }
 
 pub cons-requires : goal.cons-requires
 cons-requires g c =
-    let f = ranges g c.args.self.now c.args.step _ c.requires.in-service c.requires.due c.in-Cons.is in
-    let room = subst (λ x. charge x ≤ free (capacity_of g.S.Meaning c.args.self.now) (cells_of g.S.Meaning c.args.self.now)) c.in-Cons.is (found g c.args.self.now c.args.step c.requires.in-service c.requires.due).room in
-    record { ok = c.requires.in-service.ok; slots = (f.0, f.2, f.3); room = omega arith }
+    let f = ranges g c.args.self.now c.args.step _ c.requires.in_service c.requires.due c.in-Cons.is in
+    let room = subst (λ x. charge x ≤ free (capacity_of g.S.Meaning c.args.self.now) (cells_of g.S.Meaning c.args.self.now)) c.in-Cons.is (found g c.args.self.now c.args.step c.requires.in_service c.requires.due).room in
+    record { ok = c.requires.in_service.ok; slots = (f.0, f.2, f.3); room = omega arith }
 
 pub function-callee-requires : goal.function-callee-requires
 function-callee-requires g c =
     record {
       known =
           subst (λ o. KnownFunction o c.in-Call.function) (sym c.requires.due.loaded)
-          (ranges g c.args.self.now c.args.step _ c.requires.in-service c.requires.due c.in-Call.is).1;
+          (ranges g c.args.self.now c.args.step _ c.requires.in_service c.requires.due c.in-Call.is).1;
     }
 
 pub call-requires : goal.call-requires
 call-requires g c =
-    let f = ranges g c.args.self.now c.args.step _ c.requires.in-service c.requires.due c.in-Call.is in
-    let few = (found g c.args.self.now c.args.step c.requires.in-service c.requires.due).parameters c.in-Call.d c.in-Call.function c.in-Call.slots c.in-Call.is in
+    let f = ranges g c.args.self.now c.args.step _ c.requires.in_service c.requires.due c.in-Call.is in
+    let few = (found g c.args.self.now c.args.step c.requires.in_service c.requires.due).parameters c.in-Call.d c.in-Call.function c.in-Call.slots c.in-Call.is in
     let same = sym (c.function-callee.ensures ∙ ap (λ o. function_in o c.in-Call.function) c.requires.due.loaded) in
     record {
       few = c.if-self-ge-CALLERS.false;
@@ -84,20 +84,20 @@ call-requires g c =
       slots = subst (λ x. Padded slot_count x.signature.count c.in-Call.slots) same f.2;
     }
 
-pub hand-back-requires : goal.hand-back-requires
-hand-back-requires g c =
+pub hand_back-requires : goal.hand_back-requires
+hand_back-requires g c =
     record {
-      slot = ranges g c.args.self.now c.args.step _ c.requires.in-service c.requires.due c.in-Return.is;
-      few = c.requires.in-service.serving.kept.few_callers;
-      awaiting = (found g c.args.self.now c.args.step c.requires.in-service c.requires.due).awaited;
+      slot = ranges g c.args.self.now c.args.step _ c.requires.in_service c.requires.due c.in-Return.is;
+      few = c.requires.in_service.serving.kept.few_callers;
+      awaiting = (found g c.args.self.now c.args.step c.requires.in_service c.requires.due).awaited;
     }
 
-pub match-list-requires : goal.match-list-requires
-match-list-requires g c =
-    let f = found g c.args.self.now c.args.step c.requires.in-service c.requires.due in
+pub match_list-requires : goal.match_list-requires
+match_list-requires g c =
+    let f = found g c.args.self.now c.args.step c.requires.in_service c.requires.due in
     record {
-      ok = c.requires.in-service.ok;
-      slots = ranges g c.args.self.now c.args.step _ c.requires.in-service c.requires.due c.in-Match.is;
+      ok = c.requires.in_service.ok;
+      slots = ranges g c.args.self.now c.args.step _ c.requires.in_service c.requires.due c.in-Match.is;
       apart = λ h.
           let t = f.node c.in-Match.a c.in-Match.h c.in-Match.l c.in-Match.second c.in-Match.is h in
           record {
@@ -107,13 +107,13 @@ match-list-requires g c =
     }
 
 pub branch-self-requires : goal.branch-self-requires
-branch-self-requires g c = record { slots = ranges g c.args.self.now c.args.step _ c.requires.in-service c.requires.due c.in-If.is }
+branch-self-requires g c = record { slots = ranges g c.args.self.now c.args.step _ c.requires.in_service c.requires.due c.in-If.is }
 
 pub returns-in-Const : goal.returns-in-Const
 returns-in-Const g c =
     let M = g.S.Meaning in
     let e = c.args.self.now in
-    let v = c.requires.in-service in
+    let v = c.requires.in_service in
     store_kept M e c.constant.new.self one_step _ v.ok c.constant.ensures.store
     (const_does (capacity_of M e) (cells_of M e) e.inner c.args.step c.requires.due (g.S.Meaning.numbered e.store v.ok) v.serving.kept
     (e.inner.frame.next + c.size.result) (ap (λ n. e.inner.frame.next + n) c.size.ensures) _ _ c.constant.new.self.inner c.in-Const.is c.constant.ensures.inner)
@@ -122,7 +122,7 @@ pub returns-in-Arith : goal.returns-in-Arith
 returns-in-Arith g c =
     let M = g.S.Meaning in
     let e = c.args.self.now in
-    let v = c.requires.in-service in
+    let v = c.requires.in_service in
     store_kept M e c.arith.new.self one_step _ v.ok c.arith.ensures.store
     (arith_does (capacity_of M e) (cells_of M e) e.inner c.args.step c.requires.due (g.S.Meaning.numbered e.store v.ok) v.serving.kept
     (e.inner.frame.next + c.size.result) (ap (λ n. e.inner.frame.next + n) c.size.ensures) _ _ _ _ c.arith.new.self.inner c.in-Arith.is c.arith.ensures.inner)
@@ -131,16 +131,16 @@ pub returns-in-Empty : goal.returns-in-Empty
 returns-in-Empty g c =
     let M = g.S.Meaning in
     let e = c.args.self.now in
-    let v = c.requires.in-service in
-    store_kept M e c.no-nodes.new.self one_step _ v.ok c.no-nodes.ensures.store
+    let v = c.requires.in_service in
+    store_kept M e c.no_nodes.new.self one_step _ v.ok c.no_nodes.ensures.store
     (empty_does (capacity_of M e) (cells_of M e) e.inner c.args.step c.requires.due (g.S.Meaning.numbered e.store v.ok) v.serving.kept
-    (e.inner.frame.next + c.size.result) (ap (λ n. e.inner.frame.next + n) c.size.ensures) _ _ c.no-nodes.new.self.inner c.in-Empty.is c.no-nodes.ensures.inner)
+    (e.inner.frame.next + c.size.result) (ap (λ n. e.inner.frame.next + n) c.size.ensures) _ _ c.no_nodes.new.self.inner c.in-Empty.is c.no_nodes.ensures.inner)
 
 pub returns-in-If : goal.returns-in-If
 returns-in-If g c =
     let M = g.S.Meaning in
     let e = c.args.self.now in
-    let v = c.requires.in-service in
+    let v = c.requires.in_service in
     store_kept M e c.branch-self.new.self one_step _ v.ok c.branch-self.ensures.store
     (if_does (capacity_of M e) (cells_of M e) e.inner c.args.step c.requires.due (g.S.Meaning.numbered e.store v.ok) v.serving.kept
     (e.inner.frame.next + c.size.result) (ap (λ n. e.inner.frame.next + n) c.size.ensures) _ _ c.branch-self.new.self.inner c.in-If.is c.branch-self.ensures.inner)
@@ -149,16 +149,16 @@ pub returns-in-Return : goal.returns-in-Return
 returns-in-Return g c =
     let M = g.S.Meaning in
     let e = c.args.self.now in
-    let v = c.requires.in-service in
-    store_kept M e c.hand-back.new.self one_step _ v.ok c.hand-back.ensures.store
+    let v = c.requires.in_service in
+    store_kept M e c.hand_back.new.self one_step _ v.ok c.hand_back.ensures.store
     (return_does (capacity_of M e) (cells_of M e) e.inner c.args.step c.requires.due (g.S.Meaning.numbered e.store v.ok) v.serving.kept
-    _ c.hand-back.new.self.inner c.in-Return.is c.hand-back.ensures.inner)
+    _ c.hand_back.new.self.inner c.in-Return.is c.hand_back.ensures.inner)
 
 pub returns-else-self-ge-CALLERS : goal.returns-else-self-ge-CALLERS
 returns-else-self-ge-CALLERS g c =
     let M = g.S.Meaning in
     let e = c.args.self.now in
-    let v = c.requires.in-service in
+    let v = c.requires.in_service in
     store_kept M e c.call.new.self one_step _ v.ok c.call.ensures.store
     (call_does (capacity_of M e) (cells_of M e) e.inner c.args.step c.requires.due (g.S.Meaning.numbered e.store v.ok) v.serving.kept
     (e.inner.frame.next + c.size.result) (ap (λ n. e.inner.frame.next + n) c.size.ensures) _ _ _ c.call.new.self.inner c.in-Call.is c.if-self-ge-CALLERS.false
@@ -168,7 +168,7 @@ pub returns-then-self-ge-CALLERS : goal.returns-then-self-ge-CALLERS
 returns-then-self-ge-CALLERS g c =
     let M = g.S.Meaning in
     let e = c.args.self.now in
-    let v = c.requires.in-service in
+    let v = c.requires.in_service in
     store_kept M e e one_step _ v.ok refl
     (deep_does (capacity_of M e) (cells_of M e) e.inner c.args.step c.requires.due (g.S.Meaning.numbered e.store v.ok) v.serving.kept
     _ _ _ c.in-Call.is c.if-self-ge-CALLERS.true v.serving.fits)
@@ -177,7 +177,7 @@ pub returns-in-Cons : goal.returns-in-Cons
 returns-in-Cons g c =
     let M = g.S.Meaning in
     let e = c.args.self.now in
-    let v = c.requires.in-service in
+    let v = c.requires.in_service in
     let done = c.cons.ensures in
     record {
       ok = done.ok;
@@ -191,12 +191,12 @@ pub returns-in-Match : goal.returns-in-Match
 returns-in-Match g c =
     let M = g.S.Meaning in
     let e = c.args.self.now in
-    let v = c.requires.in-service in
-    let done = c.match-list.ensures in
+    let v = c.requires.in_service in
+    let done = c.match_list.ensures in
     record {
       ok = done.ok;
       capacity = done.capacity;
       does =
           match_does (capacity_of M e) (cells_of M e) e.inner c.args.step c.requires.due (g.S.Meaning.numbered e.store v.ok) v.serving.kept
-          (e.inner.frame.next + c.size.result) (ap (λ n. e.inner.frame.next + n) c.size.ensures) _ _ _ _ (cells_of M c.match-list.new.self) c.match-list.new.self.inner c.in-Match.is done.cells done.inner;
+          (e.inner.frame.next + c.size.result) (ap (λ n. e.inner.frame.next + n) c.size.ensures) _ _ _ _ (cells_of M c.match_list.new.self) c.match_list.new.self.inner c.in-Match.is done.cells done.inner;
     }

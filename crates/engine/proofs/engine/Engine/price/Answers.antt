@@ -9,7 +9,7 @@ pub returns : goal.returns
 returns g c =
     let M = g.S.Meaning in
     let e = c.args.self.now in
-    let v = c.requires.in-service in
+    let v = c.requires.in_service in
     call_made M e e _ _ (g.S.Meaning.numbered e.store v.ok) (g.S.Meaning.within e.store v.ok) v
-    (subst (λ x. CallDoes M e ask_price (counted x) e) (sym c.price-now.ensures)
+    (subst (λ x. CallDoes M e ask_price (counted x) e) (sym c.price_now.ensures)
     (store_kept M e e ask_price _ v.ok refl (price_does (capacity_of M e) (cells_of M e) e.inner v.serving.kept v.serving.fits)))

@@ -6,5 +6,5 @@ pub function-entry-requires : goal.function-entry-requires
 function-entry-requires g c =
     let M = g.S.Meaning in
     let e = c.args.self.now in
-    let l = open_sheet (capacity_of M e) (cells_of M e) e.inner c.requires.in-service.serving c.in-Open.is in
+    let l = open_sheet (capacity_of M e) (cells_of M e) e.inner c.requires.in_service.serving c.in-Open.is in
     record { known = first_known e.inner.sheet l.0 l.1 }

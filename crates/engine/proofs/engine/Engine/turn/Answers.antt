@@ -14,5 +14,5 @@ returns-in-Err g c =
     let made = c.in-Err.ensures in (
       omega arith,
       subst (λ x. CallMade M e one_step (refused_with x) f)
-          (refused_for_depth (cells_of M e) _ (moment f.inner) (cells_of M f) (run_is_on e.inner c.requires.in-service.serving.kept c.requires.running) made.did) made,
+          (refused_for_depth (cells_of M e) _ (moment f.inner) (cells_of M f) (run_is_on e.inner c.requires.in_service.serving.kept c.requires.running) made.did) made,
     )
