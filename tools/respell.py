@@ -12,7 +12,7 @@ import re
 import sys
 
 NAME = r"[A-Za-z_][\w']*(?:-[\w']+)+"
-TOKEN = re.compile(r"(?<![\w'\-])(" + NAME + r")(?![\w'\-])")
+TOKEN = re.compile(r"(?<![\w'+\-])(" + NAME + r")(?![\w'+\-])")
 MADE = re.compile(r"^(invariant|decreases|ghost|ghosts)-")
 USE = re.compile(r"(?:ghost )?use\s+([\w.'·-]+)\.\{([^}]*)\}", re.S)
 OTHER = {}
@@ -58,7 +58,7 @@ CRATES = set(os.listdir("crates"))
 
 
 def declared():
-    """Every name with a dash that a specs/ file or a lemma file of proofs/ declares or binds."""
+    """Every name with a dash that a specs/ file or a lemma file of proofs/ declares or binds, or a source file imports something as."""
     out = collections.defaultdict(set)
     for p in files(".antt"):
         if is_answers(p):
@@ -69,6 +69,10 @@ def declared():
         for m in TOKEN.finditer(bare):
             if m.group(1) not in kept:
                 out[m.group(1)].add(p)
+    for p in files(".rt"):
+        for _, names in USE.findall(open(p, encoding="utf-8").read()):
+            for n in re.findall(r" as (" + NAME + r")", names):
+                out[n].add(p)
     return out
 
 
@@ -107,7 +111,7 @@ def turn_answers(text, known):
         out = []
         made = head in ("c", "w", "g", "l") or re.fullmatch(r"w\d*", head)
         for i, x in enumerate(parts):
-            if "-" not in x or (i and x not in known):
+            if "-" not in x or "+" in x or (i and x not in known):
                 out.append(x)
             elif i == 0:
                 keep = x in kept or x in goals or MADE.match(x)
@@ -127,7 +131,7 @@ def turn_answers(text, known):
     return "\n".join(line(l) for l in text.split("\n"))
 
 
-PATHS = re.compile(r"(?<![\w'\-.])[A-Za-z_][\w'\-]*(?:\.[\w'\-]+)*")
+PATHS = re.compile(r"(?<![\w'+\-.])[A-Za-z_][\w'+\-]*(?:\.[\w'+\-]+)*")
 
 
 def turn_source(text, known):

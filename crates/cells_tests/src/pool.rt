@@ -2,6 +2,7 @@
 use super::calls::*;
 use cells::pool::{POOL_CODE, Pool};
 use cells::store::CellStore;
+use std::test::Fail;
 
 /// Numbers that no pool has.
 const FOREIGN: [u32; 4] = [0, 1025, 65_536, u32::MAX];

@@ -5,6 +5,7 @@ use cells::pool::{POOL_CODE, Pool};
 use cells::prepend::{PrependFault, prepend};
 use cells::quota::{QUOTA_CODE, Quota};
 use cells::store::CellStore;
+use std::test::Fail;
 
 #[test]
 fn limit_0_is_the_capacity_below(rt: HostRuntime) -> Result<(), Fail> {

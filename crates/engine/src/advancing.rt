@@ -3,7 +3,7 @@ ghost use Rattle.std.specs.Prelude.{◌≡◌, ◌+◌, ◌^◌, ◌<◌};
 ghost use Rattle.engine.specs.Answers.{advance_answer};
 ghost use Rattle.engine.specs.Rows.{Advanced, Turned};
 ghost use Rattle.engine.specs.Service.{CallMade, InService};
-ghost use Rattle.inner.specs.declared.kept.State.TheVariants.{Running as Is-running};
+ghost use Rattle.inner.specs.declared.kept.State.TheVariants.{Running as IsRunning};
 ghost use Rattle.plain.specs.Calls.{advance as advance_by};
 
 use crate::engine::Engine;
@@ -22,7 +22,7 @@ impl<S: CellStore> Engine<S> {
     // One step of an advance that has made some.
     fn turn(&mut self, made: u32) -> Turn
         requires in_service { InService S.Meaning self.old }
-        requires running { self.old.inner.state ≡ Is-running }
+        requires running { self.old.inner.state ≡ IsRunning }
         requires few { made + 1 < 2 ^ 32 }
         ensures { Turned S.Meaning self.old made result self.new }
     {

@@ -1,11 +1,11 @@
 // The questions.
 ghost use Rattle.std.specs.Prelude.{◌≡◌, ◌≤◌};
-ghost use Rattle.cells.specs.Cells.{count, free as Free-in};
+ghost use Rattle.cells.specs.Cells.{count, free as FreeIn};
 ghost use Rattle.engine.specs.Service.{CallMade, InService, capacity_of, cells_of};
 ghost use Rattle.inner.specs.Meant.{WellKept, input_stack, moment, phase_of};
 ghost use Rattle.inner.specs.Serving.{greatest_price};
 ghost use Rattle.plain.specs.Calls.{ask_free, ask_held, ask_price, ask_state, counted, in_phase};
-ghost use Rattle.standing.specs.Serving.{brought as brought-by, price as price-at};
+ghost use Rattle.standing.specs.Serving.{brought as brought_by, price as price_at};
 
 use crate::engine::Engine;
 use cells::store::CellStore;
@@ -15,8 +15,8 @@ impl<S: CellStore> Engine<S> {
     // What all entries bring along.
     fn brought(&self) -> u32
         requires kept { WellKept self.now.inner }
-        requires fits { brought-by (input_stack self.now.inner) ≤ greatest_price }
-        ensures { result ≡ brought-by (input_stack self.now.inner) }
+        requires fits { brought_by (input_stack self.now.inner) ≤ greatest_price }
+        ensures { result ≡ brought_by (input_stack self.now.inner) }
     {
         let mut sum = 0;
         for k in 0..self.inner.entered {
@@ -28,7 +28,7 @@ impl<S: CellStore> Engine<S> {
     // The price of a run on what is entered, while the engine is Open.
     pub(crate) fn price_now(&self) -> u32
         requires in_service { InService S.Meaning self.now }
-        ensures { result ≡ price-at (moment self.now.inner) }
+        ensures { result ≡ price_at (moment self.now.inner) }
     {
         let State::Open = self.inner.state else {
             return 0;
@@ -39,7 +39,7 @@ impl<S: CellStore> Engine<S> {
 
     fn free_now(&self) -> u32
         requires ok { S.Meaning.ok self.now.store }
-        ensures { result ≡ Free-in (capacity_of S.Meaning self.now) (cells_of S.Meaning self.now) }
+        ensures { result ≡ FreeIn (capacity_of S.Meaning self.now) (cells_of S.Meaning self.now) }
     {
         self.store.free()
     }

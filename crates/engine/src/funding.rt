@@ -5,7 +5,7 @@ ghost use Rattle.engine.specs.Outcomes.{FundOutcome};
 ghost use Rattle.engine.specs.Service.{CallMade, InService, capacity_of, cells_of};
 ghost use Rattle.inner.specs.Changes.{started};
 ghost use Rattle.inner.specs.Meant.{WellKept, input_stack};
-ghost use Rattle.plain.specs.Calls.{fund as begin-run};
+ghost use Rattle.plain.specs.Calls.{fund as begin_run};
 ghost use Rattle.plain.specs.Feeding.{same_numbers};
 ghost use Rattle.rules.specs.Limits.{parameter_limit};
 ghost use Rattle.standing.specs.Stepping.{as_slot, starting_words, word_frame};
@@ -90,7 +90,7 @@ impl<S: CellStore> Engine<S> {
     // Begins a run of function 0 on what is entered.
     pub fn fund(&mut self) -> Result<(), EngineFault>
         requires in_service { InService S.Meaning self.old }
-        ensures { CallMade S.Meaning self.old begin-run (acceptance result) self.new }
+        ensures { CallMade S.Meaning self.old begin_run (acceptance result) self.new }
     {
         self.fund_run()
     }

@@ -5,7 +5,7 @@ ghost use Rattle.engine.specs.Outcomes.{LoadOutcome};
 ghost use Rattle.engine.specs.Service.{CallMade, InService, capacity_of, cells_of};
 ghost use Rattle.inner.specs.Changes.{abandoned, opened_with};
 ghost use Rattle.inner.specs.Outcomes.{admits_load};
-ghost use Rattle.plain.specs.Calls.{abandon as give-up, accepted, load as load_of};
+ghost use Rattle.plain.specs.Calls.{abandon as give_up, accepted, load as load_of};
 ghost use Rattle.std.specs.Prelude.{◌≡◌};
 
 use crate::engine::Engine;
@@ -84,7 +84,7 @@ impl<S: CellStore> Engine<S> {
     // Drops input, run and result; the sheet stays.
     pub fn abandon(&mut self)
         requires in_service { InService S.Meaning self.old }
-        ensures { CallMade S.Meaning self.old give-up accepted self.new }
+        ensures { CallMade S.Meaning self.old give_up accepted self.new }
     {
         self.drop_all();
     }

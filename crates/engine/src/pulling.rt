@@ -2,8 +2,8 @@
 ghost use Rattle.engine.specs.Answers.{pull_answer};
 ghost use Rattle.engine.specs.Outcomes.{PullOutcome};
 ghost use Rattle.engine.specs.Service.{CallMade, InService, capacity_of, cells_of};
-ghost use Rattle.inner.specs.declared.kept.State.TheVariants.{Done as Is-done};
-ghost use Rattle.plain.specs.Calls.{pull as next-number};
+ghost use Rattle.inner.specs.declared.kept.State.TheVariants.{Done as IsDone};
+ghost use Rattle.plain.specs.Calls.{pull as next_number};
 ghost use Rattle.standing.specs.Stepping.{slot_word};
 ghost use Rattle.std.specs.Prelude.{◌≡◌, true, is_some, ◌≢◌};
 
@@ -17,7 +17,7 @@ use standing::Slot;
 impl<S: CellStore> Engine<S> {
     fn pull_number(&mut self) -> Result<Option<u32>, EngineFault>
         requires ok { S.Meaning.ok self.old.store }
-        requires held { self.old.inner.state ≡ Is-done → (slot_word self.old.inner.result ≢ 0) → is_some (cells_of S.Meaning self.old (slot_word self.old.inner.result)) ≡ true }
+        requires held { self.old.inner.state ≡ IsDone → (slot_word self.old.inner.result ≢ 0) → is_some (cells_of S.Meaning self.old (slot_word self.old.inner.result)) ≡ true }
         ensures ok { S.Meaning.ok self.new.store }
         ensures capacity { capacity_of S.Meaning self.new ≡ capacity_of S.Meaning self.old }
         ensures outcome { PullOutcome (cells_of S.Meaning self.old) self.old.inner result (cells_of S.Meaning self.new) self.new.inner }
@@ -44,7 +44,7 @@ impl<S: CellStore> Engine<S> {
     // The next number of the result, whose cell is given back; None at its end, and then the engine is Open with nothing entered.
     pub fn pull(&mut self) -> Result<Option<u32>, EngineFault>
         requires in_service { InService S.Meaning self.old }
-        ensures { CallMade S.Meaning self.old next-number (pull_answer result) self.new }
+        ensures { CallMade S.Meaning self.old next_number (pull_answer result) self.new }
     {
         self.pull_number()
     }

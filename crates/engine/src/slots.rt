@@ -1,5 +1,5 @@
 // Slots as values: the word and the type number in one, what a use leaves, and what an Arith computes.
-ghost use Rattle.plain.specs.Reading.{computed as outcome-of};
+ghost use Rattle.plain.specs.Reading.{computed as outcome_of};
 ghost use Rattle.standing.specs.Stepping.{as_slot, left_slot, slot_type, slot_word};
 ghost use Rattle.std.specs.Prelude.{◌≡◌};
 
@@ -51,7 +51,7 @@ pub(crate) fn slot_of(of: u8, word: u32) -> Slot
 
 // Sum, difference and product modulo 2^32; 1 or 0 for less and for equal.
 pub(crate) fn computed(op: u8, a: u32, b: u32) -> u32
-    ensures { result ≡ outcome-of op a b }
+    ensures { result ≡ outcome_of op a b }
 {
     match op {
         0 => a.wrapping_add(b),

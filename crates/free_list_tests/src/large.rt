@@ -2,6 +2,7 @@
 use super::calls::*;
 use cells::store::CellStore;
 use free_list::list::{FreeList, LIST_CODE};
+use std::test::Fail;
 
 /// How many cells are lent.
 const MANY: usize = 70_000;

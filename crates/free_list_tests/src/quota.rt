@@ -5,6 +5,7 @@ use cells::prepend::{PrependFault, prepend};
 use cells::quota::{QUOTA_CODE, Quota};
 use cells::store::CellStore;
 use free_list::list::{FreeList, LIST_CODE};
+use std::test::Fail;
 
 #[test]
 fn a_limit_under_the_capacity(rt: HostRuntime) -> Result<(), Fail> {

@@ -3,6 +3,7 @@ use super::calls::*;
 use cells::store::CellStore;
 use free_list::lent::LentCell;
 use free_list::list::{FreeList, LIST_CODE};
+use std::test::Fail;
 
 #[test]
 fn no_cell(rt: HostRuntime) -> Result<(), Fail> {

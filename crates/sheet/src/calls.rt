@@ -6,7 +6,7 @@ ghost use Rattle.rules.specs.Accounts.{after_uses, all_cover, all_filled};
 ghost use Rattle.rules.specs.Findings.{fields_right, find_call, need};
 ghost use Rattle.rules.specs.Limits.{slot_count};
 ghost use Rattle.rules.specs.Programs.{signature_of};
-ghost use Rattle.rules.specs.Tests.{both as conjunction, padded as all-padded};
+ghost use Rattle.rules.specs.Tests.{both as conjunction, padded as all_padded};
 ghost use Rattle.sheet.specs.Growth.{Grown, balance_limit};
 ghost use Rattle.sheet.specs.Held.{Sized, functions_of, tables_of, types_of};
 
@@ -42,7 +42,7 @@ struct Passed {
 
 fn pass(tables: &Tables, account: Account, count: u8, params: &[u8; 4], slots: &[u8; 4]) -> Passed
     requires sized { Sized tables.now }
-    requires right { all-padded slot_count count slots.now ≡ true }
+    requires right { all_padded slot_count count slots.now ≡ true }
     ensures filled { result.filled ≡ all_filled account (take count slots.now) }
     ensures covering { result.covering ≡ all_cover (types_of tables.now) account (take count slots.now) (take count params.now) }
     ensures behind { result.account ≡ after_uses account (take count slots.now) }
@@ -72,7 +72,7 @@ fn of_call_with(
 ) -> Finding
     requires sized { Sized tables.now }
     requires inside { d < slot_count }
-    requires right { all-padded slot_count callee.now.count slots.now ≡ true }
+    requires right { all_padded slot_count callee.now.count slots.now ≡ true }
     requires bounded { account.balance < balance_limit }
     ensures finding { result ≡ find_call (types_of tables.now) callee.now account d (take callee.now.count slots.now) }
     ensures grown { Grown account.balance result }

@@ -1,7 +1,7 @@
 // The check of a sheet.
 ghost use Rattle.std.specs.Prelude.{◌≡◌, ◌≤◌, length, take};
 ghost use Rattle.rules.specs.Limits.{byte_limit};
-ghost use Rattle.rules.specs.Verdict.{verdict as verdict-on};
+ghost use Rattle.rules.specs.Verdict.{verdict as verdict_on};
 ghost use Rattle.sheet.specs.Checked.{AcceptsExactly, Copies, answered};
 ghost use Rattle.sheet.specs.Held.{SizedAnswer, held};
 
@@ -14,7 +14,7 @@ use records::{Fault, SHEET_LIMIT, first_round};
 // Any bytes: the sheet, or the first fault. The bytes are accepted exactly when they have the form of a sheet, within the
 // limits, and the rules derive every function at its stated amounts.
 pub fn check(bytes: &[u8]) -> Result<Sheet, Fault>
-    ensures verdict { answered result ≡ verdict-on bytes.now }
+    ensures verdict { answered result ≡ verdict_on bytes.now }
     ensures exact { AcceptsExactly bytes.now result }
     ensures copies { Copies bytes.now result }
 {
@@ -23,7 +23,7 @@ pub fn check(bytes: &[u8]) -> Result<Sheet, Fault>
 
 // The sheet of bytes that pass the three rounds.
 fn made(bytes: &[u8]) -> Result<Sheet, Fault>
-    ensures verdict { answered result ≡ verdict-on bytes.now }
+    ensures verdict { answered result ≡ verdict_on bytes.now }
     ensures copies { Copies bytes.now result }
 {
     let tables = three_rounds(bytes)?;
@@ -37,7 +37,7 @@ fn made(bytes: &[u8]) -> Result<Sheet, Fault>
 
 // Each round is for a sheet that the rounds before have passed.
 fn three_rounds(bytes: &[u8]) -> Result<Tables, Fault>
-    ensures verdict { held result ≡ verdict-on bytes.now }
+    ensures verdict { held result ≡ verdict_on bytes.now }
     ensures sized { SizedAnswer result }
 {
     let _counts = first_round(bytes)?;

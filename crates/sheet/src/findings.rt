@@ -1,6 +1,6 @@
 // What the check finds of any step.
 ghost use Rattle.std.specs.Prelude.{◌≡◌, ◌<◌};
-ghost use Rattle.rules.specs.Findings.{finding as find-any};
+ghost use Rattle.rules.specs.Findings.{finding as find_any};
 ghost use Rattle.sheet.specs.Growth.{Grown, balance_limit};
 ghost use Rattle.sheet.specs.Held.{Sized, tables_of};
 
@@ -21,7 +21,7 @@ pub(crate) fn finding_of(
 ) -> Finding
     requires sized { Sized tables.now }
     requires bounded { account.balance < balance_limit }
-    ensures finding { result ≡ find-any (tables_of tables.now) function.now waiting account step }
+    ensures finding { result ≡ find_any (tables_of tables.now) function.now waiting account step }
     ensures grown { Grown account.balance result }
 {
     match step {

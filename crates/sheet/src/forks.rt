@@ -3,7 +3,7 @@ ghost use Rattle.std.specs.Prelude.{◌≡◌, ◌-◌, ◌<◌, nat_lt};
 ghost use Rattle.records.specs.declared.faults.Cause.TheVariants.{BadField, TooManyWaiting};
 ghost use Rattle.records.specs.declared.kinds.Step.TheVariants.{If, Match};
 ghost use Rattle.rules.specs.Accounts.{after_use, slot_at};
-ghost use Rattle.rules.specs.Findings.{fields_right, find_if, find_opened, has_room as room-beside, need};
+ghost use Rattle.rules.specs.Findings.{fields_right, find_if, find_opened, has_room as room_beside, need};
 ghost use Rattle.rules.specs.Limits.{waiting_limit};
 ghost use Rattle.sheet.specs.Growth.{Grown, balance_limit};
 ghost use Rattle.sheet.specs.Held.{Sized, tables_of, types_of};
@@ -32,7 +32,7 @@ pub(crate) fn of_match(
 ) -> Finding
     requires sized { Sized tables.now }
     requires bounded { account.balance < balance_limit }
-    ensures finding { result ≡ need TooManyWaiting (room-beside waiting (Match a h l second)) (need BadField (fields_right (tables_of tables.now) (Match a h l second)) (find_opened (types_of tables.now) (slot_at account a) (after_use account a) h l second)) }
+    ensures finding { result ≡ need TooManyWaiting (room_beside waiting (Match a h l second)) (need BadField (fields_right (tables_of tables.now) (Match a h l second)) (find_opened (types_of tables.now) (slot_at account a) (after_use account a) h l second)) }
     ensures grown { Grown account.balance result }
 {
     if !has_room(waiting) {
@@ -71,7 +71,7 @@ pub(crate) fn of_if(
     second: u16,
 ) -> Finding
     requires sized { Sized tables.now }
-    ensures finding { result ≡ need TooManyWaiting (room-beside waiting (If a second)) (need BadField (fields_right (tables_of tables.now) (If a second)) (find_if (types_of tables.now) account a second)) }
+    ensures finding { result ≡ need TooManyWaiting (room_beside waiting (If a second)) (need BadField (fields_right (tables_of tables.now) (If a second)) (find_if (types_of tables.now) account a second)) }
     ensures grown { Grown account.balance result }
 {
     if !has_room(waiting) {

@@ -1,5 +1,5 @@
 // What a sheet that has passed the check tells: its bytes, its tables, and the step at an offset.
-ghost use Rattle.records.specs.declared.kinds.Record.TheVariants.{Step as A-step};
+ghost use Rattle.records.specs.declared.kinds.Record.TheVariants.{Step as AStep};
 ghost use Rattle.rules.specs.Programs.{fetch};
 ghost use Rattle.rules.specs.Reach.{StepStands};
 ghost use Rattle.sheet.specs.Sheets.{bytes_of, function_at, list_type_at, sheet_tables};
@@ -54,7 +54,7 @@ impl Sheet {
     // The step at an offset that a derivation reaches. That a step stands there is known, so there is no other answer.
     pub fn step_at(&self, at: usize) -> Step
         requires stands { StepStands (bytes_of self.now) at }
-        ensures { fetch (bytes_of self.now) at ≡ Some (A-step result) }
+        ensures { fetch (bytes_of self.now) at ≡ Some (AStep result) }
     {
         let bytes = self.bytes();
         first_step(&bytes[at..])
@@ -64,7 +64,7 @@ impl Sheet {
 // The step with which bytes begin that begin with one.
 fn first_step(bytes: &[u8]) -> Step
     requires stands { StepStands bytes.now 0 }
-    ensures { fetch bytes.now 0 ≡ Some (A-step result) }
+    ensures { fetch bytes.now 0 ≡ Some (AStep result) }
 {
     let mut reader = Reader::new(bytes);
     match reader.next() {

@@ -1,7 +1,7 @@
 // Types by their numbers: the table's records, covering, and the fields that name types or slots.
 ghost use Rattle.std.specs.Prelude.{◌≡◌, ◌-◌, cond, ◌==◌, nat_lt};
-ghost use Rattle.rules.specs.Accounts.{slot_covers, slot_of as slot-with};
-ghost use Rattle.rules.specs.Tests.{covers, is_list_type, padded as all-padded};
+ghost use Rattle.rules.specs.Accounts.{slot_covers, slot_of as slot_with};
+ghost use Rattle.rules.specs.Tests.{covers, is_list_type, padded as all_padded};
 ghost use Rattle.rules.specs.Types.{type_of, type_record as record_of};
 ghost use Rattle.sheet.specs.Held.{Sized, types_of};
 
@@ -90,7 +90,7 @@ impl Tables {
 
 // A slot that has the type numbered t.
 pub(crate) fn slot_of(t: u8) -> Slot
-    ensures { result ≡ slot-with t }
+    ensures { result ≡ slot_with t }
 {
     if t == 0 {
         Slot::Number
@@ -107,7 +107,7 @@ fn field_right(is_used: bool, x: u8, limit: u8) -> bool
 
 // Whether of four fields the first `count` are below the limit and the others FF.
 pub(crate) fn padded(limit: u8, count: u8, fields: &[u8; 4]) -> bool
-    ensures { result ≡ all-padded limit count fields.now }
+    ensures { result ≡ all_padded limit count fields.now }
 {
     for i in 0..4 {
         let is_used = i < count as usize;

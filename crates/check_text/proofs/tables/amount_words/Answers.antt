@@ -7,7 +7,7 @@ use Rattle.check_text.proofs.tables.amount_words.Goals as goal
 pub returns-in_default : goal.returns-in_default
 returns-in_default c =
     entry_missing (list_type_at (sheet_tables c.args.sheet.now).types) amount_text (λ _ node. node.element) (string_bytes c.loop.text) (amounts (sheet_tables c.args.sheet.now).types c.args.of) (32 - c.loop.counter) c.loop.t c.loop.invariant
-    (sym c.list_type.ensures ∙ c.in-default.is)
+    (sym c.list_type.ensures ∙ c.in_default.is)
 
 pub loop-preserved : goal.loop-preserved
 loop-preserved c =

@@ -4,8 +4,8 @@ use Rattle.check_text.specs.Reports.{type_line, type_lines}
 use Rattle.check_text.proofs.Tabled.{entry_more, entry_missing, table_full}
 use Rattle.check_text.proofs.tables.type_lines.Goals as goal
 
-pub returns-in-default : goal.returns-in-default
-returns-in-default c =
+pub returns-in_default : goal.returns-in_default
+returns-in_default c =
     entry_missing (list_type_at (sheet_tables c.args.sheet.now).types) type_line (λ j _. j + 1) (string_bytes c.loop-i.text) (type_lines (sheet_tables c.args.sheet.now).types)
     (32 - c.loop-i.i) (c.loop-i.i + 1) c.loop-i.invariant (sym c.list_type.ensures ∙ c.in_default.is)
 
