@@ -1,7 +1,7 @@
 // The limits of types, functions and bytes, with sheets made in a loop.
 use crate::refusals::answer;
 use std::alloc::Global;
-use std::test::{Fail, assert_eq};
+use std::test::Fail;
 
 const TYPE: &[u8] = b"\x11\0\0\x01";
 

@@ -1,7 +1,8 @@
 // The tables of cases, run.
 use crate::cases::{ACCEPTED, AMOUNTS, BODIES, CUT_AND_TABLES, SLOTS, WAITING};
 use std::alloc::Global;
-use std::test::{Fail, assert};
+use std::process::Abort;
+use std::test::Fail;
 
 // The number and the place of the refusal, or 0 and 0 where the sheet is accepted.
 pub(crate) fn answer(bytes: &[u8]) -> (u8, usize) {
@@ -38,45 +39,45 @@ fn bytes_of(heap: Global, text: &str) -> Result<Vec<u8>, Fail> {
     Ok(bytes)
 }
 
-fn all_as_said(rt: HostRuntime, table: &str) -> Result<(), Fail> {
+fn all_as_said(rt: &impl Abort, heap: Global, table: &str) -> Result<(), Fail> {
     for line in table.lines() {
         let mut parts = line.split('|');
         let name = parts.next().ok_or("no name")?;
-        let sheet = bytes_of(rt.alloc(), parts.next().ok_or("no sheet")?)?;
+        let sheet = bytes_of(heap, parts.next().ok_or("no sheet")?)?;
         let said = parts.next().ok_or("no answer")?;
         let (number, place) = answer(sheet.as_slice());
-        let answered = format!(in rt.alloc(); " {number} {place}")?;
-        assert!(answered.as_str() == said, "{}", name);
+        let answered = format!(in heap; " {number} {place}")?;
+        assert!(rt; answered.as_str() == said, "{name}");
     }
     Ok(())
 }
 
 #[test]
 fn right_sheets_are_accepted(rt: HostRuntime) -> Result<(), Fail> {
-    all_as_said(rt, ACCEPTED)
+    all_as_said(&rt, rt.alloc(), ACCEPTED)
 }
 
 #[test]
 fn the_first_two_rounds_refuse(rt: HostRuntime) -> Result<(), Fail> {
-    all_as_said(rt, CUT_AND_TABLES)
+    all_as_said(&rt, rt.alloc(), CUT_AND_TABLES)
 }
 
 #[test]
 fn the_form_of_bodies_is_checked(rt: HostRuntime) -> Result<(), Fail> {
-    all_as_said(rt, BODIES)
+    all_as_said(&rt, rt.alloc(), BODIES)
 }
 
 #[test]
 fn slots_are_checked(rt: HostRuntime) -> Result<(), Fail> {
-    all_as_said(rt, SLOTS)
+    all_as_said(&rt, rt.alloc(), SLOTS)
 }
 
 #[test]
 fn amounts_are_checked(rt: HostRuntime) -> Result<(), Fail> {
-    all_as_said(rt, AMOUNTS)
+    all_as_said(&rt, rt.alloc(), AMOUNTS)
 }
 
 #[test]
 fn at_most_sixteen_branches_wait(rt: HostRuntime) -> Result<(), Fail> {
-    all_as_said(rt, WAITING)
+    all_as_said(&rt, rt.alloc(), WAITING)
 }

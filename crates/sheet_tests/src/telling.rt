@@ -1,7 +1,7 @@
 // What an accepted sheet tells of itself.
 use records::Step;
 use sheet::Sheet;
-use std::test::{Fail, assert};
+use std::test::Fail;
 
 // Each item of a list is doubled: two types, and one function of 30 bytes of body.
 const DOUBLING: &[u8] =
