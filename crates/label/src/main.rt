@@ -5,6 +5,7 @@ use check_text::report_on;
 use label_text::{HexFault, Verb, fault_words, list, parse_hex};
 use std::alloc::AllocError;
 use std::io::Read;
+use std::process::ExitCode;
 use std::{env, fs, io};
 
 const USAGE: &str = "usage: label list [FILE]
@@ -35,13 +36,14 @@ impl From<AllocError> for Stop {
     }
 }
 
-fn main(rt: HostRuntime) -> Result<(), Stop> {
+fn main(rt: HostRuntime) -> io::Result<ExitCode> {
     match run(&rt) {
+        Ok(()) => return Ok(ExitCode::SUCCESS),
+        Err(Stop::Said) => {}
         Err(Stop::Memory) => eprintln!(rt; "label: out of memory")?,
         Err(Stop::Broken(error)) => eprintln!(rt; "label: {error}")?,
-        done => return done,
     }
-    Err(Stop::Said)
+    Ok(ExitCode::FAILURE)
 }
 
 fn run(rt: &HostRuntime) -> Result<(), Stop> {
