@@ -1,7 +1,7 @@
 -- From what a call does to what an engine has of it. Rests on the theorem about one call.
-use Rattle.std.proofs.Common.{◌≡◌, ℕ, ◌≤◌, sym, refl, ap, ◌∙◌, subst}
+use Rattle.std.proofs.Common.{◌≡◌, ◌≤◌, sym, ap, subst}
 use Rattle.cells.specs.declared.store.Meaning.{Ghosts}
-use Rattle.cells.specs.Cells.{Map, Numbered, count}
+use Rattle.cells.specs.Cells.{Numbered, count}
 use Rattle.plain.specs.Calls.{Request, Answer}
 use Rattle.inner.specs.Serving.{Serving, Does}
 use Rattle.inner.proofs.Moments.{stood_for, still_serving}

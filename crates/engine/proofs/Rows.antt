@@ -1,5 +1,5 @@
 -- One step more of an advance. Rests on the rows of an advance and on what it does on words.
-use Rattle.std.proofs.Common.{◌≡◌, ℕ, zero, suc, ◌+◌, ◌-◌, ◌<◌, ◌≤◌, List, [], ◌∷◌, ◌++◌, length, Ok, Err, sym, refl, ap, ◌∙◌, subst, arith, length-append}
+use Rattle.std.proofs.Common.{◌≡◌, ℕ, suc, ◌+◌, ◌-◌, ◌<◌, ◌≤◌, List, [], ◌∷◌, ◌++◌, length, Ok, Err, sym, refl, ◌∙◌, subst, arith, length-append}
 use Rattle.cells.specs.declared.store.Meaning.{Ghosts}
 use Rattle.cells.specs.Cells.{Numbered, count}
 use Rattle.plain.specs.Calls.{Phase, is_running, is_done, one_step, advance, Answer, in_phase, advanced, refused_with, advance_excluded, too_deep, too_deep_after}

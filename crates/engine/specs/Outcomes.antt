@@ -1,5 +1,5 @@
 -- The outcome of each call by what it answers. Rests on what the calls leave in what an engine keeps.
-use Rattle.std.specs.Prelude.{◌≡◌, ℕ, List, Some, None, Ok, Err, Option, Result}
+use Rattle.std.specs.Prelude.{ℕ, List, Some, None, Ok, Err, Option, Result}
 use Rattle.cells.specs.Cells.{Map}
 use Rattle.inner.specs.declared.kept.Inner.{Inner}
 use Rattle.inner.specs.declared.kept.State.TheVariants.{Open, Done}

@@ -1,9 +1,9 @@
 -- How lent cells stand for the held cells: what each number reads, and what writing one cell does to the map. Rests on the
 -- counts of the interface.
-use Rattle.std.proofs.Common.{◌≡◌, ℕ, zero, suc, ◌+◌, ◌<◌, ◌≤◌, true, false, ltb, List, length, get_or, set, is_some, Some, None, sym, refl, ap, ◌∙◌, ⊎_elim, add-one, arith}
+use Rattle.std.proofs.Common.{◌≡◌, ℕ, zero, suc, ◌+◌, ◌<◌, ◌≤◌, true, false, ltb, List, set, is_some, Some, None, sym, refl, ap, ◌∙◌, ⊎_elim, add-one, arith}
 use Rattle.std.proofs.lemmas.Bool.{cases_eq, cases_lt, cond-true, cond-false, lt-ltb, le-ltb}
 use Rattle.std.proofs.lemmas.List.{get_or-set_same, get_or-set_other, get_or_past}
-use Rattle.cells.specs.Cells.{last_number, Map, Held, Unheld, Numbered, empty, update}
+use Rattle.cells.specs.Cells.{last_number, Held, Unheld, Numbered, empty, update}
 use Rattle.cells.specs.Counts.{same_map, update_here, update_elsewhere}
 use Rattle.free_list.specs.declared.lent.LentCell.{LentCell}
 use Rattle.free_list.specs.Lent.{no_cell, cell_at, lent_capacity, shown, lent_cells}

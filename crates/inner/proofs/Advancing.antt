@@ -1,13 +1,13 @@
 -- The steps of an advance, one after the other: what is left of it from here is what was left of it before a step. Rests on what an
 -- advance does on words.
-use Rattle.std.proofs.Common.{◌≡◌, ℕ, zero, suc, ◌+◌, ◌-◌, ◌<◌, List, sym, refl, ap, ◌∙◌, subst, arith}
+use Rattle.std.proofs.Common.{◌≡◌, ℕ, suc, ◌+◌, List, sym, refl, ap, ◌∙◌, subst, arith}
 use Rattle.cells.specs.Cells.{Map}
-use Rattle.plain.specs.Calls.{Answer, in_phase, is_running, is_done, is_bare, is_open, Phase, advanced, refused_with, Refusal, too_deep as is_too_deep, too_deep_after, excluded}
+use Rattle.plain.specs.Calls.{in_phase, is_running, is_done, is_bare, is_open, Phase, advanced, refused_with, Refusal, too_deep as is_too_deep, too_deep_after}
 use Rattle.plain.specs.States.{Sheet, program_of}
 use Rattle.standing.specs.declared.frames.Frame.{Frame}
 use Rattle.standing.specs.Stepping.{Effect, goes_on, ends, refused, step_on_words}
 use Rattle.standing.specs.Moments.{Moment, bare, open_with, running_with, done_with, phase}
-use Rattle.standing.specs.Serving.{Done, done, refuse, stepped, one_step_on_words}
+use Rattle.standing.specs.Serving.{Done, done, stepped, one_step_on_words}
 use Rattle.standing.specs.Law.{Takeable}
 use Rattle.inner.specs.declared.kept.Inner.{Inner}
 use Rattle.inner.specs.declared.kept.State.{State}

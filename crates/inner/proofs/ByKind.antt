@@ -1,26 +1,21 @@
 -- What each kind of step does to what an engine keeps is what it does on words: a lemma for each kind. Rests on what a step does to
 -- all that an engine keeps.
-use Rattle.std.proofs.Common.{◌≡◌, ℕ, zero, suc, ◌+◌, ◌-◌, ◌<◌, ◌≤◌, Bool, true, false, cond, eqb, leb, List, [], ◌∷◌, length, get_or, take, set, Some, None, Option, sym, refl, ap, ◌∙◌, subst, arith, lit<, lit≤, eqb-true, leb-false, leb-true}
+use Rattle.std.proofs.Common.{◌≡◌, ℕ, ◌+◌, ◌<◌, ◌≤◌, Bool, true, false, cond, eqb, leb, List, ◌∷◌, length, take, set, Some, sym, refl, ap, ◌∙◌, subst, arith, eqb-true, leb-false, leb-true}
 use borrow.Author.Tests.{eqb-false}
 use Rattle.records.specs.declared.kinds.Step.{Step as Action}
 use Rattle.records.specs.declared.kinds.Step.TheVariants.{Const, Arith, Empty, Cons, Call, Return, Match, If}
 use Rattle.records.specs.Writing.{step_size}
-use Rattle.rules.specs.Programs.{no_function}
-use Rattle.rules.specs.declared.functions.FunctionEntry.{FunctionEntry}
 use Rattle.cells.specs.Cells.{Map, Numbered, without}
-use Rattle.plain.specs.Calls.{one_step, Answer, in_phase, is_running, is_done, refused_with, too_deep}
+use Rattle.plain.specs.Calls.{one_step, in_phase, is_running, refused_with, too_deep}
 use Rattle.plain.specs.Reading.{unless_zero}
-use Rattle.plain.specs.States.{Sheet, program_of}
+use Rattle.plain.specs.States.{program_of}
 use Rattle.standing.specs.declared.frames.Slot.{Slot}
 use Rattle.standing.specs.declared.frames.Slot.TheVariants.{Number, ListOf}
 use Rattle.standing.specs.declared.frames.Frame.{Frame}
-use Rattle.standing.specs.Stepping.{Effect, goes_on, ends, refused, effect, slot_in, slot_word, slot_type, used_words, words_in, word_frame, starting_words, moved_out, left_behind}
-use Rattle.standing.specs.Moments.{running_with}
+use Rattle.standing.specs.Stepping.{goes_on, refused, effect, slot_in, slot_word, slot_type, used_words, words_in, word_frame, left_behind}
 use Rattle.inner.specs.declared.kept.Inner.{Inner}
-use Rattle.inner.specs.declared.kept.State.{State}
-use Rattle.inner.specs.declared.kept.State.TheVariants.{Running, Done}
 use Rattle.inner.specs.Meant.{moment, sheet_of, suspended, no_frame, WellKept, phase_of}
-use Rattle.inner.specs.Changes.{with_frame, with_call, with_return, with_result}
+use Rattle.inner.specs.Changes.{with_frame, with_return, with_result}
 use Rattle.inner.specs.Kinds.{onward, const_frame, arith_frame, empty_frame, if_frame, cons_frame, Consed, element_in, function_in, node_frame, matched_cells, matched_frame, callee_frame, caller_frame, called, handed_back}
 use Rattle.inner.specs.Serving.{PriceFits, Does, ComesTo}
 use Rattle.inner.proofs.Stacks.{newest_length}

@@ -1,5 +1,5 @@
 -- Calls that the state excludes: they are refused and alter nothing. Rests on the moments of each state.
-use Rattle.std.proofs.Common.{◌≡◌, ℕ, true, List, is_some, Some, None, Option, sym, refl, ap, ◌∙◌, subst, arith}
+use Rattle.std.proofs.Common.{◌≡◌, ℕ, true, List, is_some, Some, None, Option, sym, refl, ap, ◌∙◌, arith}
 use Rattle.cells.specs.Cells.{Map, Numbered}
 use Rattle.plain.specs.Calls.{Phase, is_bare, is_open, is_running, is_done, excluded, advance_excluded, refused_with, load, feed, fund, one_step, advance, pull}
 use Rattle.sheet.specs.declared.passed.Sheet.{Sheet as LoadedSheet}

@@ -1,22 +1,17 @@
 -- That funding does what it does on words, and its tests. Rests on the moment of an open engine.
-use Rattle.std.proofs.Common.{◌≡◌, ℕ, zero, suc, ◌+◌, ◌<◌, ◌≤◌, Bool, true, false, cond, eqb, leb, List, [], ◌∷◌, map, length, get_or, take, drop, set, Some, sym, refl, ap, ◌∙◌, subst, arith, length-take, le-leb}
+use Rattle.std.proofs.Common.{◌≡◌, ℕ, suc, ◌+◌, ◌<◌, ◌≤◌, Bool, true, false, cond, eqb, leb, List, [], ◌∷◌, map, length, get_or, take, drop, set, Some, sym, refl, ap, ◌∙◌, subst, arith, le-leb}
 use borrow.Author.Tests.{lt-leb}
 use Rattle.cells.specs.Cells.{Map, free}
 use Rattle.rules.specs.Tests.{both}
 use Rattle.plain.specs.Calls.{fund, accepted, refused_with, other_parameters, too_dear, excluded}
 use Rattle.plain.specs.Feeding.{same_numbers}
-use Rattle.plain.specs.States.{Sheet}
 use Rattle.sheet.specs.declared.passed.Sheet.{Sheet as LoadedSheet}
-use Rattle.standing.specs.declared.frames.Slot.{Slot}
-use Rattle.standing.specs.declared.frames.Frame.{Frame}
-use Rattle.standing.specs.declared.frames.Input.{Input}
 use Rattle.standing.specs.Stepping.{moved_in}
-use Rattle.standing.specs.Moments.{open_with, running_with}
-use Rattle.standing.specs.Serving.{done, refuse, are_parameters, first_frame, price, price_on_words, fund_on_words}
-use Rattle.standing.proofs.Lists.{map_length}
+use Rattle.standing.specs.Moments.{running_with}
+use Rattle.standing.specs.Serving.{done, refuse, are_parameters, first_frame, price, fund_on_words}
 use Rattle.inner.specs.declared.kept.Inner.{Inner}
-use Rattle.inner.specs.declared.kept.State.TheVariants.{Open, Running}
-use Rattle.inner.specs.Meant.{moment, sheet_of, input_stack, no_input, WellKept}
+use Rattle.inner.specs.declared.kept.State.TheVariants.{Open}
+use Rattle.inner.specs.Meant.{moment, sheet_of, input_stack, WellKept}
 use Rattle.inner.specs.Changes.{started}
 use Rattle.inner.specs.Outcomes.{Funds, FundMistaken, FundUnpaid, ExcludedFrom}
 use Rattle.inner.specs.Serving.{PriceFits, Does}

@@ -1,12 +1,12 @@
 -- The moments that an engine means in each state, and that a call keeps it in service. Rests on the theorem about one call.
-use Rattle.std.proofs.Common.{◌≡◌, ℕ, ◌≤◌, List, [], ◌∷◌, Some, None, Option, sym, refl, ap, ◌∙◌, subst}
+use Rattle.std.proofs.Common.{◌≡◌, ℕ, ◌≤◌, Some, Option, refl, ap, ◌∙◌}
 use Rattle.cells.specs.Cells.{Map, Numbered, count}
 use Rattle.plain.specs.Calls.{Request, Answer}
 use Rattle.plain.specs.Service.{serve, state_after}
 use Rattle.sheet.specs.declared.passed.Sheet.{Sheet as LoadedSheet}
-use Rattle.standing.specs.Moments.{Moment, bare, open_with, running_with, done_with, Stands, Sound}
+use Rattle.standing.specs.Moments.{bare, open_with, running_with, done_with, Stands, Sound}
 use Rattle.standing.specs.Serving.{done}
-use Rattle.standing.specs.Calls.{MayDo, Serves}
+use Rattle.standing.specs.Calls.{Serves}
 use Rattle.standing.proofs.Calls.{calls_keep_standing}
 use Rattle.inner.specs.declared.kept.Inner.{Inner}
 use Rattle.inner.specs.declared.kept.State.{State}

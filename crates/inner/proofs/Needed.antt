@@ -1,8 +1,7 @@
 -- What a step that is due finds. Rests on what a step of a funded run finds on words.
-use Rattle.std.proofs.Common.{◌≡◌, ℕ, ◌<◌, ◌≤◌, List, [], ◌∷◌, length, Some, None, Option, sym, refl, ap, ◌∙◌, subst, arith}
+use Rattle.std.proofs.Common.{◌≡◌, ℕ, ◌<◌, ◌≤◌, List, ◌∷◌, Some, ◌∙◌, subst, arith}
 use Rattle.records.specs.declared.kinds.Step.{Step as Action}
 use Rattle.records.specs.declared.kinds.Step.TheVariants.{Call, Match}
-use Rattle.records.specs.declared.kinds.Record.TheVariants.{Step}
 use Rattle.cells.specs.Cells.{Map, Numbered, free}
 use Rattle.rules.specs.Limits.{byte_limit, slot_count, parameter_limit}
 use Rattle.rules.specs.Programs.{signature_of}
@@ -20,7 +19,7 @@ use Rattle.standing.specs.Ready.{Ready, TakenApart}
 use Rattle.standing.proofs.Needed.{a_step_finds_what_it_needs}
 use Rattle.inner.specs.declared.kept.Inner.{Inner}
 use Rattle.inner.specs.declared.kept.State.TheVariants.{Running}
-use Rattle.inner.specs.Meant.{moment, sheet_of, suspended, no_frame}
+use Rattle.inner.specs.Meant.{sheet_of, suspended, no_frame}
 use Rattle.inner.specs.Serving.{Serving, ComesTo}
 use Rattle.inner.proofs.Stacks.{newest_length}
 use Rattle.inner.proofs.Moments.{running_moment}

@@ -1,14 +1,12 @@
 -- That loading, giving up and asking do what they do on words. Rests on the moments of each state.
-use Rattle.std.proofs.Common.{◌≡◌, ℕ, Bool, true, false, List, [], is_some, Some, None, Ok, Err, Option, Result, sym, refl, ap, ◌∙◌, subst, arith}
+use Rattle.std.proofs.Common.{◌≡◌, ℕ, true, false, List, [], is_some, Some, None, Option, sym, refl, ap, ◌∙◌, subst, arith}
 use Rattle.records.specs.declared.faults.Fault.{Fault}
-use Rattle.rules.specs.Programs.{Tables}
 use Rattle.rules.specs.Verdict.{verdict}
 use Rattle.cells.specs.Cells.{Map, empty, count, free}
 use Rattle.plain.specs.Calls.{Request, Answer, accepted, bad_sheet, excluded, refused_with, counted, in_phase, load, abandon, ask_price, ask_free, ask_held, ask_state}
-use Rattle.plain.specs.States.{Sheet}
 use Rattle.sheet.specs.declared.passed.Sheet.{Sheet as LoadedSheet}
-use Rattle.sheet.specs.Sheets.{bytes_of, sheet_tables}
-use Rattle.standing.specs.Moments.{Moment, bare, open_with, phase}
+use Rattle.sheet.specs.Sheets.{sheet_tables}
+use Rattle.standing.specs.Moments.{open_with}
 use Rattle.standing.specs.Serving.{done, loaded, load_on_words, abandon_on_words, price}
 use Rattle.inner.specs.declared.kept.Inner.{Inner}
 use Rattle.inner.specs.declared.kept.State.{State}
@@ -16,7 +14,7 @@ use Rattle.inner.specs.declared.kept.State.TheVariants.{Bare, Open, Running, Don
 use Rattle.inner.specs.Meant.{moment, moment_in, sheet_of, phase_of, newest_first, no_input, Loaded, WellKept}
 use Rattle.inner.specs.Changes.{opened, opened_with, abandoned, abandoned_in}
 use Rattle.inner.specs.Outcomes.{Same, admits_load, Loads, LoadRefused, LoadExcluded}
-use Rattle.inner.specs.Serving.{PriceFits, Unaltered, Does}
+use Rattle.inner.specs.Serving.{PriceFits, Does}
 use Rattle.inner.proofs.Moments.{bare_moment, open_moment, running_moment, done_moment}
 use Rattle.inner.proofs.Stepping.{told_alters, same_unaltered, is_there}
 use Rattle.inner.proofs.Excluded.{load_excluded, phase_kept}

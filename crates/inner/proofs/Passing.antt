@@ -1,5 +1,5 @@
 -- Arguments that are passed one after the other. Rests on what a Call does on words.
-use Rattle.std.proofs.Common.{◌≡◌, ℕ, zero, suc, ◌+◌, ◌<◌, ◌≤◌, List, [], ◌∷◌, length, get_or, take, drop, set, sym, refl, ap, ◌∙◌, add-one, arith, length-take, drop-cons, get_or-take}
+use Rattle.std.proofs.Common.{◌≡◌, ℕ, zero, suc, ◌+◌, ◌<◌, ◌≤◌, List, [], ◌∷◌, length, get_or, take, drop, set, sym, ap, add-one, arith, length-take, drop-cons, get_or-take}
 use Rattle.std.proofs.lemmas.List.{drop_all}
 use Rattle.rules.specs.Branches.{Padded, no_fields, unused_field, used_field}
 use Rattle.standing.specs.declared.frames.Slot.{Slot}

@@ -1,5 +1,5 @@
 -- What the entries bring along fits 32 bits. Rests on the moments of each state.
-use Rattle.std.proofs.Common.{◌≡◌, ℕ, zero, suc, ◌+◌, ◌*◌, ◌<◌, ◌≤◌, List, [], get_or, Some, Option, sym, refl, ap, ◌∙◌, subst, ⊎_elim, mul-le-mul_left, arith}
+use Rattle.std.proofs.Common.{◌≡◌, ℕ, zero, suc, ◌*◌, ◌<◌, ◌≤◌, List, Some, Option, sym, subst, ⊎_elim, arith}
 use Rattle.std.proofs.lemmas.Bool.{cases_lt}
 use Rattle.cells.specs.Cells.{Map, count}
 use Rattle.sheet.specs.declared.passed.Sheet.{Sheet as LoadedSheet}
@@ -9,7 +9,7 @@ use Rattle.standing.specs.Serving.{brought}
 use Rattle.inner.specs.declared.kept.Inner.{Inner}
 use Rattle.inner.specs.declared.kept.State.{State}
 use Rattle.inner.specs.declared.kept.State.TheVariants.{Bare, Open}
-use Rattle.inner.specs.Meant.{newest_first, no_input, input_stack, moment}
+use Rattle.inner.specs.Meant.{newest_first, no_input, input_stack}
 use Rattle.inner.specs.Kinds.{KnownFunction}
 use Rattle.inner.specs.Serving.{greatest_amount, greatest_price, PriceFits, Serving}
 use Rattle.inner.proofs.Moments.{open_moment}

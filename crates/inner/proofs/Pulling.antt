@@ -1,6 +1,5 @@
 -- That a pull does what it does on words, and finds its node. Rests on the moment of a result.
-use Rattle.std.proofs.Common.{◌≡◌, ℕ, Bool, true, false, cond, eqb, List, [], is_some, Some, None, Option, sym, refl, ap, ◌∙◌, subst, arith, eq-eqb, ne_eqb}
-use Rattle.records.specs.declared.kinds.NodeType.{NodeType}
+use Rattle.std.proofs.Common.{◌≡◌, ℕ, Bool, true, false, cond, eqb, [], is_some, Some, sym, refl, ap, ◌∙◌, subst, arith, eq-eqb, ne_eqb}
 use Rattle.cells.specs.Cells.{Map}
 use Rattle.plain.specs.Values.{Value}
 use Rattle.plain.specs.Calls.{pull, pulled, at_end, excluded, refused_with}
@@ -11,16 +10,14 @@ use Rattle.standing.specs.declared.frames.Slot.{Slot}
 use Rattle.standing.specs.declared.frames.Slot.TheVariants.{ListOf}
 use Rattle.standing.specs.Stepping.{slot_word, slot_type, words_in}
 use Rattle.standing.specs.Located.{Located, value, word, Stored, stored_number, stored_none, stored_node}
-use Rattle.standing.specs.Rows.{LocatedSlot, slot_words}
-use Rattle.standing.specs.Standing.{ResultStands}
+use Rattle.standing.specs.Rows.{slot_words}
 use Rattle.standing.specs.Moments.{done_with, open_with, Stands, done_stands, Sound, sound_done}
 use Rattle.standing.specs.Serving.{done, pulled_node, pull_on_words}
-use Rattle.standing.proofs.Bindings.{word_of_number}
-use Rattle.standing.proofs.ForkSteps.{Listed, listed}
+use Rattle.standing.proofs.ForkSteps.{listed}
 use Rattle.standing.proofs.Pulls.{numbers_typed}
 use Rattle.inner.specs.declared.kept.Inner.{Inner}
 use Rattle.inner.specs.declared.kept.State.{State as EngineState}
-use Rattle.inner.specs.declared.kept.State.TheVariants.{Bare, Open, Done}
+use Rattle.inner.specs.declared.kept.State.TheVariants.{Bare, Done}
 use Rattle.inner.specs.Meant.{moment, sheet_of, WellKept}
 use Rattle.inner.specs.Changes.{opened, with_result}
 use Rattle.inner.specs.Outcomes.{Pulls, PullEnds, ExcludedFrom}

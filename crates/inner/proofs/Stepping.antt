@@ -1,22 +1,20 @@
 -- What a step does to all that an engine keeps, and that this is what a step does on words. Rests on the moments of each state.
-use Rattle.std.proofs.Common.{◌≡◌, ℕ, zero, suc, ◌+◌, ◌-◌, ◌<◌, ◌≤◌, Bool, true, false, cond, List, [], ◌∷◌, length, get_or, set, is_some, Some, None, Option, sym, refl, ap, ◌∙◌, subst, arith, lit<, lit≤, length-set}
+use Rattle.std.proofs.Common.{◌≡◌, ℕ, ◌<◌, true, ◌∷◌, is_some, Some, Option, sym, refl, ap, ◌∙◌, subst, arith, lit<, lit≤, length-set}
 use Rattle.records.specs.declared.kinds.Step.{Step as Action}
-use Rattle.records.specs.declared.kinds.Step.TheVariants.{Return}
-use Rattle.records.specs.declared.kinds.Record.{Record}
 use Rattle.cells.specs.Cells.{Map, Numbered}
 use Rattle.plain.specs.Calls.{one_step, Answer, accepted, in_phase, advanced, pulled, at_end, counted, is_running, is_done, refused_with, too_deep}
-use Rattle.plain.specs.States.{Sheet, program_of}
+use Rattle.plain.specs.States.{program_of}
 use Rattle.standing.specs.declared.frames.Slot.{Slot}
 use Rattle.standing.specs.declared.frames.Frame.{Frame}
-use Rattle.standing.specs.Stepping.{Effect, goes_on, ends, refused, effect, effect_at, slot_in, handed_back}
-use Rattle.standing.specs.Moments.{Moment, running_with, done_with}
+use Rattle.standing.specs.Stepping.{Effect, goes_on, refused, effect, effect_at, handed_back}
+use Rattle.standing.specs.Moments.{Moment}
 use Rattle.standing.specs.Serving.{done, stepped, one_step_on_words}
 use Rattle.standing.specs.Law.{Takeable}
 use Rattle.standing.specs.Calls.{MayDo}
 use Rattle.inner.specs.declared.kept.Inner.{Inner}
-use Rattle.inner.specs.declared.kept.State.TheVariants.{Running, Done}
+use Rattle.inner.specs.declared.kept.State.TheVariants.{Running}
 use Rattle.inner.specs.Meant.{moment, sheet_of, suspended, frame_stack, no_frame, newest_first, WellKept}
-use Rattle.inner.specs.Changes.{with_frame, with_call, with_return, with_result, resumed}
+use Rattle.inner.specs.Changes.{with_frame, with_call, with_return, with_result}
 use Rattle.inner.specs.Serving.{PriceFits, Unaltered, Does, ComesTo}
 use Rattle.inner.proofs.Stacks.{newest_pushed, newest_top}
 use Rattle.inner.proofs.Moments.{running_moment, done_moment}

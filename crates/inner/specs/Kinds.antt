@@ -1,7 +1,6 @@
 -- The newest frame after each kind of step, and what the kinds leave that take or give a cell, call or hand back. Rests on what a
 -- step does on words, and on changes of what an engine keeps.
-use Rattle.std.specs.Prelude.{◌≡◌, ℕ, ◌<◌, ◌≤◌, true, cond, List, length, take, is_some, Some, None, Option, ◌==◌, slice_index_or, slice_set}
-use Rattle.records.specs.declared.kinds.NodeType.{NodeType}
+use Rattle.std.specs.Prelude.{◌≡◌, ℕ, ◌<◌, true, cond, List, length, take, is_some, Some, None, Option, ◌==◌, slice_index_or, slice_set}
 use Rattle.rules.specs.Branches.{ListType}
 use Rattle.rules.specs.Programs.{no_function}
 use Rattle.rules.specs.Types.{type_record}
@@ -12,7 +11,7 @@ use Rattle.sheet.specs.Sheets.{sheet_tables}
 use Rattle.cells.specs.declared.words.Words.{Words}
 use Rattle.cells.specs.Cells.{Map, put, without}
 use Rattle.standing.specs.declared.frames.Slot.{Slot}
-use Rattle.standing.specs.declared.frames.Slot.TheVariants.{Vacant, Number, ListOf}
+use Rattle.standing.specs.declared.frames.Slot.TheVariants.{Number, ListOf}
 use Rattle.standing.specs.declared.frames.Frame.{Frame}
 use Rattle.standing.specs.Located.{node_words}
 use Rattle.standing.specs.Law.{Takeable}

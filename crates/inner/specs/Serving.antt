@@ -1,6 +1,6 @@
 -- When what an engine keeps, with the cells of its store, is in service, and what a call does to it. Rests on the moment that it
 -- means.
-use Rattle.std.specs.Prelude.{◌≡◌, ℕ, ◌*◌, ◌<◌, ◌≤◌, true, length, Some, None, Option, ◌≢◌}
+use Rattle.std.specs.Prelude.{◌≡◌, ℕ, ◌*◌, ◌≤◌, Some, None, Option, ◌≢◌}
 use Rattle.records.specs.declared.kinds.Step.{Step as Action}
 use Rattle.records.specs.declared.kinds.Record.TheVariants.{Step}
 use Rattle.cells.specs.Cells.{Map, count}

@@ -1,14 +1,13 @@
 -- What is read of a text is what it spells.
-use Rattle.std.proofs.Common.{◌≡◌, ℕ, ◌+◌, ◌*◌, Bool, true, false, cond, eqb, ◌⊎◌, List, [], ◌∷◌, Some, None, Ok, Err, Option, Result, sym, refl, ap, ◌∙◌, subst, inl, inr, ⊎_elim, arith, eq-eqb, ne_eqb, eqb-true}
+use Rattle.std.proofs.Common.{◌≡◌, ℕ, ◌+◌, ◌*◌, Bool, true, false, cond, eqb, List, [], ◌∷◌, Some, None, Ok, Err, Option, Result, sym, refl, ap, ◌∙◌, subst, ⊎_elim, arith, ne_eqb, eqb-true}
 use borrow.Author.Tests.{eqb-false}
 use Rattle.std.proofs.lemmas.Bool.{cases_eq, cases_Bool}
 use Rattle.label_text.specs.declared.hexes.Spot.{Spot}
 use Rattle.label_text.specs.declared.hexes.TextFault.{TextFault}
 use Rattle.label_text.specs.declared.hexes.Mode.{Mode}
 use Rattle.label_text.specs.declared.hexes.Mode.TheVariants.{Between, Half, Comment}
-use Rattle.label_text.specs.declared.hexes.Turn.{Turn}
-use Rattle.label_text.specs.declared.hexes.Turn.TheVariants.{Goes, Gives, Strange, Missing}
-use Rattle.label_text.specs.Hexes.{digit_of, is_gap, Spells, nothing, gap, byte, comment, comment_more, comment_ends, comment_last, first_digit, second_digit, turn, behind, with_byte, after_turn, read_on}
+use Rattle.label_text.specs.declared.hexes.Turn.TheVariants.{Goes}
+use Rattle.label_text.specs.Hexes.{digit_of, is_gap, Spells, nothing, gap, byte, comment, comment_more, comment_ends, comment_last, first_digit, second_digit, behind, with_byte, after_turn, read_on}
 
 abbrev Answer : Type 0
 Answer = Result (List ℕ) TextFault

@@ -3,7 +3,7 @@ use Rattle.std.proofs.Common.{◌≡◌, ℕ, ◌+◌, ◌≤◌, eqb, List, ◌
 use Rattle.std.proofs.lemmas.Bool.{cond-false}
 use Rattle.records.specs.declared.kinds.Record.{Record}
 use Rattle.records.specs.declared.kinds.Record.TheVariants.{ListType, Function, Step}
-use Rattle.records.specs.Rows.{Row, next, row}
+use Rattle.records.specs.Rows.{Row, next}
 use Rattle.label_text.specs.declared.listing.Numbering.{Numbering}
 use Rattle.label_text.specs.Listing.{lines, line_at, record_line, number_behind, numbered}
 

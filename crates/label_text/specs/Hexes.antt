@@ -1,5 +1,5 @@
 -- Hexadecimal text: what it spells, and how it is read. Assumes nothing.
-use Rattle.std.specs.Prelude.{◌≡◌, ℕ, ◌+◌, ◌-◌, ◌*◌, ◌<◌, Bool, true, false, cond, List, [], ◌∷◌, Some, None, Ok, Err, Option, Result, ◌==◌, ◌≢◌, nat_le}
+use Rattle.std.specs.Prelude.{◌≡◌, ℕ, ◌+◌, ◌-◌, ◌*◌, Bool, true, cond, List, [], ◌∷◌, Some, None, Ok, Err, Option, Result, ◌==◌, ◌≢◌, nat_le}
 use Rattle.label_text.specs.declared.hexes.Spot.{Spot}
 use Rattle.label_text.specs.declared.hexes.TextFault.{TextFault}
 use Rattle.label_text.specs.declared.hexes.Slip.TheVariants.{NotHexadecimal, HalfByte}

@@ -1,5 +1,5 @@
 -- The front of a list, byte by byte.
-use Rattle.std.proofs.Common.{◌≡◌, ℕ, zero, suc, ◌+◌, ◌<◌, ◌≤◌, List, [], ◌∷◌, ◌++◌, length, get_or, drop, replicate, sym, refl, ap, ◌∙◌, add-zero, arith, lit<, drop-cons}
+use Rattle.std.proofs.Common.{◌≡◌, ℕ, zero, suc, ◌+◌, ◌<◌, ◌≤◌, List, [], ◌∷◌, ◌++◌, length, drop, replicate, sym, refl, ap, ◌∙◌, add-zero, arith, lit<, drop-cons}
 use Rattle.records.specs.Cutting.{byte}
 use Rattle.records.specs.Inverse.{Bytes}
 

@@ -1,12 +1,12 @@
 -- A kind byte is that of ten kinds or of none, and each kind lays its fields out in one way.
-use Rattle.std.proofs.Common.{◌≡◌, ℕ, ◌+◌, ◌≤◌, cond, eqb, ◌⊎◌, List, [], ◌∷◌, ◌++◌, Err, sym, refl, ap, ◌∙◌, subst, inl, inr, ⊎_elim, ne_eqb}
+use Rattle.std.proofs.Common.{◌≡◌, ℕ, cond, eqb, ◌⊎◌, List, ◌∷◌, ◌++◌, Err, sym, refl, ap, ◌∙◌, subst, inl, inr, ⊎_elim, ne_eqb}
 use Rattle.std.proofs.lemmas.Bool.{cases_eq, cond-false}
 use Rattle.records.specs.declared.faults.Cause.TheVariants.{UnknownKind}
 use Rattle.records.specs.declared.kinds.Step.TheVariants.{Const, Arith, Empty, Cons, Call, Return, Match, If}
 use Rattle.records.specs.declared.kinds.Record.{Record}
 use Rattle.records.specs.declared.kinds.Record.TheVariants.{ListType, Function, Step}
 use Rattle.records.specs.Writing.{written, size, in_two}
-use Rattle.records.specs.Cutting.{Cutting, cut, whole, byte, two_at, four_at, bytes_at}
+use Rattle.records.specs.Cutting.{cut, whole, byte, two_at, four_at, bytes_at}
 use Rattle.records.specs.Inverse.{Bytes}
 use Rattle.records.proofs.Numerals.{two_split, four_split}
 use Rattle.records.proofs.Fronts.{front}

@@ -1,5 +1,5 @@
 -- Two and four bytes stand for a number, and the number for them.
-use Rattle.std.proofs.Common.{◌≡◌, ℕ, ◌+◌, ◌*◌, ◌/◌, ◌%◌, ◌<◌, List, [], ◌∷◌, ap, arith}
+use Rattle.std.proofs.Common.{◌≡◌, ℕ, ◌+◌, ◌*◌, ◌/◌, ◌%◌, ◌<◌, [], ◌∷◌, arith}
 use Rattle.records.specs.Writing.{in_two, in_four}
 use Rattle.records.specs.Cutting.{two_bytes, four_bytes}
 

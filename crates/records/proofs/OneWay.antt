@@ -1,22 +1,20 @@
 -- A sheet is the writing of one row of records at most, and the first round finds it or the place where there is none.
-use Rattle.std.proofs.Common.{◌≡◌, ℕ, ◌+◌, ◌-◌, ◌<◌, ◌≤◌, ltb, ◌⊎◌, List, [], ◌∷◌, ◌++◌, length, drop, replicate, Some, Ok, Err, Result, sym, refl, ap, ◌∙◌, subst, inl, inr, ⊎_elim, append-nil, zero-add, arith, length-append, ltb-false, ltb-true}
+use Rattle.std.proofs.Common.{◌≡◌, ℕ, ◌+◌, ◌-◌, ◌<◌, ◌≤◌, ltb, List, [], ◌∷◌, ◌++◌, length, drop, replicate, Err, sym, refl, ap, ◌∙◌, subst, ⊎_elim, append-nil, zero-add, arith, length-append, ltb-false, ltb-true}
 use lib.ListN.{length-replicate}
 use lib.Seq.{drop-length, drop-append_seam}
 use Rattle.std.proofs.lemmas.Bool.{cond-true, cond-false, cases_Bool}
-use Rattle.records.specs.declared.faults.Cause.{Cause}
-use Rattle.records.specs.declared.faults.Cause.TheVariants.{TooLong, UnknownKind, CutShort}
+use Rattle.records.specs.declared.faults.Cause.TheVariants.{UnknownKind, CutShort}
 use Rattle.records.specs.declared.faults.Fault.{Fault}
 use Rattle.records.specs.declared.kinds.Record.{Record}
-use Rattle.records.specs.declared.rounds.Tally.{Tally}
 use Rattle.records.specs.Writing.{written, writing, size}
-use Rattle.records.specs.Cutting.{Cutting, cut}
+use Rattle.records.specs.Cutting.{cut}
 use Rattle.records.specs.Rows.{Row, next, end, broken, row}
 use Rattle.records.specs.FirstRound.{no_records, tallied, first_round}
-use Rattle.records.specs.Inverse.{Bytes, Writable}
+use Rattle.records.specs.Inverse.{Bytes}
 use Rattle.records.specs.Sheets.{AllWritable, tally, Whole, BeginsNone, no_such_kind, more_wanted, Refused, too_long, breaks_off, ReadInOneWay}
 use Rattle.records.proofs.Fronts.{bytes_append, bytes_drop, bytes_zeros}
 use Rattle.records.proofs.Known.{Layout, Unknown, known}
-use Rattle.records.proofs.ReadBack.{reads_back, laid_out, short, whole_or_short}
+use Rattle.records.proofs.ReadBack.{reads_back, laid_out, whole_or_short}
 use Rattle.records.proofs.Rows.{row_broken}
 use Rattle.records.proofs.Splits.{along, row_of_writing, tallied_along, Split, split}
 

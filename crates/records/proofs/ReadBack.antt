@@ -1,5 +1,5 @@
 -- Cutting what was written gives the record back, and what is cut to a record is that record's writing.
-use Rattle.std.proofs.Common.{◌≡◌, ℕ, ◌+◌, ◌-◌, ◌/◌, ◌%◌, ◌<◌, ◌≤◌, ltb, ◌⊎◌, List, [], ◌∷◌, ◌++◌, length, drop, Some, Ok, Err, sym, refl, ap, ◌∙◌, subst, inl, inr, ⊎_elim, arith, length-append, ltb-false, ltb-true, le-ltb}
+use Rattle.std.proofs.Common.{◌≡◌, ℕ, ◌+◌, ◌/◌, ◌%◌, ◌<◌, ◌≤◌, ltb, ◌⊎◌, List, [], ◌∷◌, ◌++◌, length, drop, Some, Ok, Err, sym, refl, ap, ◌∙◌, subst, inl, inr, ⊎_elim, arith, length-append, ltb-false, ltb-true, le-ltb}
 use Rattle.std.proofs.lemmas.Bool.{cond-true, cond-false, cases_Bool}
 use Rattle.records.specs.declared.faults.Cause.TheVariants.{CutShort}
 use Rattle.records.specs.declared.kinds.Signature.{Signature}
@@ -7,12 +7,12 @@ use Rattle.records.specs.declared.kinds.Step.{Step as Action}
 use Rattle.records.specs.declared.kinds.Step.TheVariants.{Const, Arith, Empty, Cons, Call, Return, Match, If}
 use Rattle.records.specs.declared.kinds.Record.{Record}
 use Rattle.records.specs.declared.kinds.Record.TheVariants.{ListType, Function, Step}
-use Rattle.records.specs.Writing.{written, step_written, size, in_two, in_four}
+use Rattle.records.specs.Writing.{written, step_written, size, in_two}
 use Rattle.records.specs.Cutting.{Cutting, cut, whole, two_bytes, four_bytes, bytes_at}
 use Rattle.records.specs.Inverse.{Bytes, Writable, Reads}
 use Rattle.records.proofs.Numerals.{two_back, four_back}
 use Rattle.records.proofs.Fronts.{front, length_front, front_then_drop, bytes_front}
-use Rattle.records.proofs.Known.{Layout, Unknown, known}
+use Rattle.records.proofs.Known.{Layout, known}
 
 whole_there : (xs : List ℕ) (at : ℕ) (r : Record) → size r ≤ length xs → whole xs at r ≡ Ok (Some r)
 whole_there xs at r fits = cond-false (ltb (length xs) (size r)) _ _ (le-ltb (length xs) (size r) fits)

@@ -5,7 +5,7 @@ use Rattle.records.specs.declared.faults.Fault.{Fault}
 use Rattle.records.specs.declared.kinds.Record.{Record}
 use Rattle.records.specs.Writing.{size}
 use Rattle.records.specs.Cutting.{Cutting, cut, moved}
-use Rattle.records.specs.Rows.{Row, next, end, broken, begin, row_behind, row}
+use Rattle.records.specs.Rows.{next, end, broken, begin, row_behind, row}
 use Rattle.records.proofs.Positive.{size_positive}
 
 drop_rest : (b : ℕ) (bs : List ℕ) (n : ℕ) → 0 < n → drop (n - 1) bs ≡ drop n (b ∷ bs)

@@ -1,7 +1,5 @@
 -- How a record is written as bytes. Assumes nothing.
-use Rattle.std.specs.Prelude.{ℕ, ◌+◌, ◌/◌, ◌%◌, List, [], ◌∷◌, ◌++◌}
-use Rattle.records.specs.declared.kinds.NodeType.{NodeType}
-use Rattle.records.specs.declared.kinds.Signature.{Signature}
+use Rattle.std.specs.Prelude.{ℕ, ◌/◌, ◌%◌, List, [], ◌∷◌, ◌++◌}
 use Rattle.records.specs.declared.kinds.Step.{Step as Action}
 use Rattle.records.specs.declared.kinds.Step.TheVariants.{Const, Arith, Empty, Cons, Call, Return, Match, If}
 use Rattle.records.specs.declared.kinds.Record.{Record}

@@ -1,5 +1,5 @@
 -- The kinds of steps that end a branch or fork it: each finding agrees with its rule.
-use Rattle.std.proofs.Common.{◌≡◌, ℕ, ◌+◌, ◌-◌, ◌≤◌, true, not, eqb, leb, List, Some, sym, refl, ap, ◌∙◌, subst, ne_eqb, le-leb, leb-true}
+use Rattle.std.proofs.Common.{◌≡◌, ℕ, ◌+◌, ◌≤◌, true, not, eqb, leb, List, Some, sym, refl, ap, ◌∙◌, subst, ne_eqb, le-leb, leb-true}
 use Rattle.records.specs.declared.kinds.Signature.{Signature}
 use Rattle.records.specs.declared.kinds.Step.{Step as Action}
 use Rattle.records.specs.declared.kinds.Step.TheVariants.{Return, Match, If}

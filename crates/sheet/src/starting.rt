@@ -1,6 +1,6 @@
 // The account with which a body starts.
 ghost use Rattle.std.specs.Prelude.{◌≡◌, ◌<◌, ◌≤◌};
-ghost use Rattle.rules.specs.Accounts.{opening as start_of_lem};
+ghost use Rattle.rules.specs.Accounts.{opening as start_of};
 
 use crate::types::slot_of;
 use records::Signature;
@@ -16,7 +16,7 @@ fn at_most_four(count: u8) -> usize
 
 // The parameters stand in slots 0 upward, and the entry amount is the balance.
 pub(crate) fn opening(function: &Signature) -> Account
-    ensures answer { result ≡ start_of_lem function.now }
+    ensures answer { result ≡ start_of function.now }
     ensures small { result.balance < 65536 }
 {
     let mut slots = [Slot::Vacant; SLOTS];

@@ -1,5 +1,5 @@
 -- Step and advance on words. Rests on the steps of a funded run.
-use Rattle.std.proofs.Common.{◌≡◌, ℕ, zero, suc, ◌+◌, ◌≤◌, List, [], ◌∷◌, sym, refl, ap, ◌∙◌, subst}
+use Rattle.std.proofs.Common.{◌≡◌, ℕ, ◌+◌, List, [], ◌∷◌, sym, refl, subst}
 use Rattle.records.specs.declared.kinds.Step.{Step as Action}
 use Rattle.cells.specs.Cells.{Map}
 use Rattle.rules.specs.Lawful.{Lawful}
@@ -8,15 +8,15 @@ use Rattle.plain.specs.Reading as reading
 use Rattle.plain.specs.Values.{Value}
 use Rattle.plain.specs.States as plain
 use Rattle.plain.specs.Running as running
-use Rattle.plain.specs.Funded.{Funded, Ended, Numbers}
+use Rattle.plain.specs.Funded.{Funded, Numbers}
 use Rattle.plain.specs.Law.{Follows, stays_funded, has_ended, is_refused}
 use Rattle.plain.proofs.Runs.{steps_keep_what_is_paid}
 use Rattle.standing.specs.declared.frames.Slot.{Slot}
 use Rattle.standing.specs.declared.frames.Frame.{Frame}
 use Rattle.standing.specs.Stepping.{Effect, goes_on, ends, refused, step_on_words}
 use Rattle.standing.specs.Standing.{RunStands, ResultStands, StandsFor, stands_on, stands_end, stands_refused}
-use Rattle.standing.specs.Moments.{running_with, done_with, Stands, run_stands, done_stands, Sound, sound_running, sound_done}
-use Rattle.standing.specs.Serving.{Done, done, stepped, one_step_on_words}
+use Rattle.standing.specs.Moments.{running_with, run_stands, done_stands, sound_running, sound_done}
+use Rattle.standing.specs.Serving.{Done, stepped, one_step_on_words}
 use Rattle.standing.specs.Law.{Takeable}
 use Rattle.standing.specs.Calls.{Serves, Advances, asked_for, one_further, run_ends, too_deep}
 use Rattle.standing.proofs.Steps.{steps_keep_standing}

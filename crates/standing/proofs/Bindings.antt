@@ -1,6 +1,6 @@
 -- A row with something put into a slot that may be bound, and what a number is on words and in the cells. Rests on rows and on how
 -- slots fit a context.
-use Rattle.std.proofs.Common.{◌≡◌, ℕ, ◌+◌, ◌<◌, List, length, set, sym, refl, ap, ◌∙◌, arith, length-set}
+use Rattle.std.proofs.Common.{◌≡◌, ℕ, ◌+◌, ◌<◌, length, set, sym, refl, ap, ◌∙◌, arith, length-set}
 use Rattle.rules.specs.Limits.{slot_count}
 use Rattle.rules.specs.Contexts.{Context, Binds}
 use Rattle.rules.proofs.Truth.{impossible}

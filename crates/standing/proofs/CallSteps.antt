@@ -1,5 +1,5 @@
 -- Call and Return on words. Rests on rows and frames.
-use Rattle.std.proofs.Common.{◌≡◌, ℕ, zero, suc, ◌+◌, ◌<◌, ◌≤◌, Bool, true, false, cond, leb, List, [], ◌∷◌, map, length, get_or, take, set, replicate, Some, None, Option, sym, refl, ap, ◌∙◌, subst, le_refl, arith, length-set, get_or-set_other}
+use Rattle.std.proofs.Common.{◌≡◌, ℕ, zero, suc, ◌+◌, ◌<◌, ◌≤◌, Bool, true, false, cond, leb, List, [], ◌∷◌, map, length, get_or, take, set, replicate, Some, None, sym, refl, ap, ◌∙◌, subst, le_refl, arith, length-set, get_or-set_other}
 use Rattle.records.specs.declared.kinds.NodeType.{NodeType}
 use Rattle.records.specs.declared.kinds.Step.TheVariants.{Call, Return}
 use Rattle.cells.specs.Cells.{Map, one_if}
@@ -8,20 +8,18 @@ use Rattle.rules.specs.Types.{Ty, ElementsLower}
 use Rattle.rules.specs.Programs.{Program, no_function}
 use Rattle.rules.specs.Contexts.{Context, used, Uses, Passes, pass_none, pass_one, NoLists}
 use Rattle.plain.specs.Values.{Value}
-use Rattle.plain.specs.Slots.{Slots, value_in, after_use, put_from, starting_slots, slots_nodes}
+use Rattle.plain.specs.Slots.{Slots, after_use, put_from, starting_slots, slots_nodes}
 use Rattle.plain.specs.Reading as plain
 use Rattle.plain.specs.Fitting.{Filled}
 use Rattle.plain.specs.Paid.{Suspended, a_caller}
 use Rattle.plain.proofs.Slots.{no_lists_bare}
 use Rattle.plain.proofs.Uses.{use_slot}
-use Rattle.standing.specs.declared.frames.Slot.{Slot}
 use Rattle.standing.specs.declared.frames.Slot.TheVariants.{Vacant}
-use Rattle.standing.specs.declared.frames.Frame.{Frame}
-use Rattle.standing.specs.Rows.{LocatedSlot, vacant, Row, located_in, slot_words, row_words, slot_value, row_values, slot_occurrences, row_occurrences, used_located, Kept, kept_vacant, KeptRow, kept_none, kept_more}
-use Rattle.standing.specs.Stepping.{slot_in, used_words, moved_out, left_behind, moved_in, starting_words, word_frame, Effect, goes_on, ends, refused, handed_back, effect}
+use Rattle.standing.specs.Rows.{vacant, Row, located_in, slot_words, row_words, slot_value, row_values, slot_occurrences, row_occurrences, used_located, Kept, kept_vacant, KeptRow, kept_none, kept_more}
+use Rattle.standing.specs.Stepping.{slot_in, moved_out, left_behind, moved_in, starting_words, word_frame, Effect, goes_on, refused, handed_back, effect}
 use Rattle.standing.specs.Standing.{LocatedFrame, located_frame, frame_words, frame_values, frames_occurrences, KeptFrames, one_frame, StandsFor, stands_on, stands_end, stands_refused}
-use Rattle.standing.proofs.Lists.{map_at, map_set, map_length}
-use Rattle.standing.proofs.Rows.{words_in_slot, words_after_use, values_after_use, occurrences_after_set, occurrences_after_use, row_within, kept_at, kept_use, kept_set, Taken, taken}
+use Rattle.standing.proofs.Lists.{map_set, map_length}
+use Rattle.standing.proofs.Rows.{words_in_slot, words_after_use, values_after_use, occurrences_after_set, occurrences_after_use, row_within, kept_at, kept_set, taken}
 use Rattle.standing.proofs.Bindings.{binding}
 use Rattle.standing.proofs.Runs.{newest, goes_on_with, by_value}
 

@@ -1,21 +1,20 @@
 -- Every call keeps standing: one case for each call and each moment. Rests on the calls on words.
-use Rattle.std.proofs.Common.{◌≡◌, ℕ, zero, suc, ◌+◌, ◌-◌, ◌≤◌, List, [], ◌∷◌, map, Ok, Err, Result, sym, refl, ap, ◌∙◌, subst, arith}
+use Rattle.std.proofs.Common.{◌≡◌, ℕ, ◌+◌, ◌-◌, ◌≤◌, List, [], map, Ok, Err, Result, sym, refl, ap, ◌∙◌, subst, arith}
 use Rattle.records.specs.declared.faults.Fault.{Fault}
-use Rattle.cells.specs.Cells.{Map, Numbered, empty, Unheld, one_if, count, free}
-use Rattle.cells.specs.Counts.{count_empty}
+use Rattle.cells.specs.Cells.{Map, Numbered, empty, one_if, count}
 use Rattle.rules.specs.Programs.{Tables}
 use Rattle.rules.specs.Verdict.{verdict}
 use Rattle.rules.proofs.Holds.{check_accepts_what_the_rules_derive}
-use Rattle.plain.specs.Calls.{Request, load, feed, fund, one_step, advance, pull, abandon, ask_price, ask_free, ask_held, ask_state, Refusal, excluded, advance_excluded, bad_sheet, counted, in_phase}
+use Rattle.plain.specs.Calls.{load, feed, fund, one_step, advance, pull, abandon, ask_price, ask_free, ask_held, ask_state, excluded, advance_excluded, bad_sheet, counted, in_phase}
 use Rattle.plain.specs.States as plain
 use Rattle.plain.specs.Feeding as feeding
 use Rattle.plain.specs.Running as running
 use Rattle.plain.specs.Service.{serve}
-use Rattle.standing.specs.Inputs.{InputsStand, entry_words, entry_value, no_entries}
-use Rattle.standing.specs.Moments.{Moment, bare, open_with, running_with, done_with, phase, Stands, bare_stands, open_stands, run_stands, done_stands, Sound, sound_bare, sound_open, sound_running, sound_done}
-use Rattle.standing.specs.Serving.{Done, done, refuse, loaded, load_on_words, feed_on_words, fund_on_words, one_step_on_words, pull_on_words, abandon_on_words, fed_on_words, brought, price}
+use Rattle.standing.specs.Inputs.{entry_words, no_entries}
+use Rattle.standing.specs.Moments.{Moment, bare, open_with, phase, Stands, bare_stands, open_stands, run_stands, done_stands, Sound, sound_bare, sound_open, sound_running, sound_done}
+use Rattle.standing.specs.Serving.{Done, loaded, load_on_words, feed_on_words, fund_on_words, one_step_on_words, pull_on_words, abandon_on_words, fed_on_words, brought, price}
 use Rattle.standing.specs.Law.{Takeable}
-use Rattle.standing.specs.Calls.{ForSomeNumber, MayDo, Serves, HeldAreTheLiveNodes, CallsKeepStanding}
+use Rattle.standing.specs.Calls.{MayDo, Serves, HeldAreTheLiveNodes, CallsKeepStanding}
 use Rattle.standing.proofs.Counting.{held_are_the_nodes_of_a_run, held_are_the_nodes_of_a_result, sum_none, held_as_summed}
 use Rattle.standing.proofs.Entries.{held_are_the_entries, brought_is}
 use Rattle.standing.proofs.Tests.{refuses}

@@ -1,6 +1,6 @@
 -- Located values and the cells of a map: a cell that a value does not have may change; what is held after one cell is put or
 -- removed; a node that is made, and one that is taken apart. Rests on the meaning of a store.
-use Rattle.std.proofs.Common.{◌≡◌, ℕ, ◌+◌, ◌≤◌, Bool, true, false, cond, eqb, Some, None, Option, sym, refl, ap, ◌∙◌, ⊎_elim, arith}
+use Rattle.std.proofs.Common.{◌≡◌, ℕ, ◌+◌, ◌≤◌, Bool, true, false, cond, eqb, Some, None, Option, refl, ap, ◌∙◌, ⊎_elim, arith}
 use Rattle.std.proofs.lemmas.Bool.{eq-eqb, ne_eqb, cases_eq, cond-true, cond-false}
 use Rattle.cells.specs.declared.words.Words.{Words}
 use Rattle.cells.specs.Cells.{Map, update, put, without, one_if}

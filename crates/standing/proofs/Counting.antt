@@ -1,15 +1,15 @@
 -- As many cells are held as the live values have nodes: a sum over all cells, of the nodes in each. Rests on located values and on
 -- how held cells are counted.
-use Rattle.std.proofs.Common.{◌≡◌, ℕ, zero, suc, ◌+◌, ◌<◌, ◌≤◌, List, [], ◌∷◌, map, Some, None, sym, refl, ap, ◌∙◌, subst, ⊎_elim, arith}
+use Rattle.std.proofs.Common.{◌≡◌, ℕ, zero, suc, ◌+◌, ◌<◌, ◌≤◌, List, map, Some, refl, ap, ◌∙◌, ⊎_elim, arith}
 use Rattle.std.proofs.lemmas.Bool.{cases_eq, cases_lt}
 use Rattle.records.specs.declared.kinds.NodeType.{NodeType}
 use Rattle.cells.specs.declared.words.Words.{Words}
-use Rattle.cells.specs.Cells.{Map, Numbered, last_number, one_if, count_below, count, free}
+use Rattle.cells.specs.Cells.{Map, Numbered, last_number, one_if, count_below, count}
 use Rattle.rules.proofs.Truth.{impossible}
 use Rattle.plain.specs.Values.{nodes}
 use Rattle.plain.specs.Slots.{slot_nodes, slots_nodes}
 use Rattle.plain.specs.Reading as plain
-use Rattle.standing.specs.Located.{Located, in_cell, value, Stored, stored_number, stored_none, stored_node, one_where_same, occurrences}
+use Rattle.standing.specs.Located.{Located, value, Stored, stored_number, stored_none, stored_node, one_where_same, occurrences}
 use Rattle.standing.specs.Rows.{LocatedSlot, Row, slot_value, row_values, slot_occurrences, row_occurrences, Kept, kept_vacant, kept_number, kept_list, KeptRow, kept_none, kept_more}
 use Rattle.standing.specs.Standing.{LocatedFrame, frame_values, frames_occurrences, KeptFrames, no_frames, one_frame}
 use Rattle.standing.specs.Law.{HeldAreTheNodesOfARun, HeldAreTheNodesOfAResult}

@@ -1,22 +1,20 @@
 -- Entries of an input stack in the cells: a cell that they do not have may change, they are turned round, and their nodes are
 -- counted. Rests on located values.
-use Rattle.std.proofs.Common.{◌≡◌, ℕ, zero, suc, ◌+◌, ◌<◌, ◌≤◌, List, [], ◌∷◌, map, reverse, length, Some, None, Option, sym, refl, ap, ◌∙◌, subst, arith}
+use Rattle.std.proofs.Common.{◌≡◌, ℕ, ◌+◌, ◌<◌, List, [], ◌∷◌, map, length, Some, Option, refl, ap, ◌∙◌, arith}
 use mathlib.Core.List.{reverse_aux}
 use Rattle.records.specs.declared.kinds.NodeType.{NodeType}
 use Rattle.cells.specs.declared.words.Words.{Words}
 use Rattle.cells.specs.Cells.{Map, Numbered, update, one_if, count}
-use Rattle.plain.specs.Values.{nodes}
-use Rattle.plain.specs.States.{entries_nodes, entries_potential, Entry}
+use Rattle.plain.specs.States.{entries_nodes, entries_potential}
 use Rattle.plain.specs.Funded as law
-use Rattle.standing.specs.declared.frames.Input.{Input}
-use Rattle.standing.specs.Located.{value, occurrences}
-use Rattle.standing.specs.Rows.{LocatedSlot, slot_words, slot_value, Row, row_words, row_values, row_occurrences, slot_occurrences, KeptRow, kept_none, kept_more}
+use Rattle.standing.specs.Located.{occurrences}
+use Rattle.standing.specs.Rows.{Row, row_words, row_values, row_occurrences, KeptRow, kept_none, kept_more}
 use Rattle.standing.specs.Stepping.{as_slot}
-use Rattle.standing.specs.Inputs.{LocatedEntry, entry_words, entry_value, entries_occurrences, KeptEntry, KeptEntries, no_entries, one_entry}
+use Rattle.standing.specs.Inputs.{LocatedEntry, entry_words, entry_value, entries_occurrences, KeptEntries, no_entries, one_entry}
 use Rattle.standing.specs.Serving.{brought}
 use Rattle.standing.proofs.Cells.{stored_beside}
 use Rattle.standing.proofs.Counting.{sum, sum_none, sum_both, sum_located, held_as_summed, held_below_last}
-use Rattle.standing.proofs.ForkSteps.{element_slot, Element, element}
+use Rattle.standing.proofs.ForkSteps.{element_slot, element}
 
 pub entries_beside : {ts : List NodeType} {m : Map} {Ls : List LocatedEntry} (k : ℕ) (entry : Option Words) → KeptEntries ts m Ls →
     entries_occurrences k Ls ≡ 0 → KeptEntries ts (update m k entry) Ls

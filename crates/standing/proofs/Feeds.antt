@@ -1,22 +1,20 @@
 -- Feed on words. Rests on entries and on what each call does on words.
-use Rattle.std.proofs.Common.{◌≡◌, ℕ, zero, suc, ◌+◌, ◌-◌, ◌<◌, ◌≤◌, Bool, true, false, cond, eqb, ltb, List, [], ◌∷◌, map, length, Some, None, Option, sym, refl, ap, ◌∙◌, subst, arith, ltb-true, eqb-true}
-use Rattle.records.specs.declared.kinds.NodeType.{NodeType}
-use Rattle.cells.specs.Cells.{Map, Numbered, put, one_if, count}
-use Rattle.rules.specs.Types.{Ty, list, type_record, type_of, ElementsLower}
+use Rattle.std.proofs.Common.{◌≡◌, ℕ, ◌+◌, ◌-◌, ◌≤◌, eqb, ltb, List, [], ◌∷◌, map, length, Some, None, Option, sym, refl, ap, ◌∙◌, subst, arith, ltb-true, eqb-true}
+use Rattle.cells.specs.Cells.{Map, Numbered, put, one_if}
+use Rattle.rules.specs.Types.{list, type_record, type_of}
 use Rattle.rules.specs.Branches.{ListType}
 use Rattle.rules.specs.Lawful.{Lawful}
 use Rattle.rules.proofs.Numbered.{type_of_list, list_type_true}
 use Rattle.rules.proofs.Truth.{split}
-use Rattle.plain.specs.Values.{num, empty, node, potential, HasType, is_num, is_empty, is_node}
-use Rattle.plain.specs.Calls.{Refusal, bad_record, bad_type, too_few_entries, other_type, too_many_entries, no_free_cell}
+use Rattle.plain.specs.Values.{empty, node, potential, HasType, is_num, is_empty, is_node}
+use Rattle.plain.specs.Calls.{bad_record, bad_type, too_few_entries, other_type, too_many_entries, no_free_cell}
 use Rattle.plain.specs.States as plain
 use Rattle.plain.specs.Feeding as feeding
 use Rattle.plain.specs.Feeding.{Fed, entry_limit}
-use Rattle.standing.specs.declared.frames.Input.{Input}
-use Rattle.standing.specs.Located.{Located, a_number, no_node, in_cell, value, word, node_words, stored_number, stored_none, occurrences}
-use Rattle.standing.specs.Inputs.{LocatedEntry, input, entry_words, entry_value, entries_occurrences, KeptEntry, KeptEntries, no_entries, one_entry}
-use Rattle.standing.specs.Moments.{open_with, Stands, open_stands, Sound, sound_open}
-use Rattle.standing.specs.Serving.{Done, pushed, joined, joined_entry, fed_on_words}
+use Rattle.standing.specs.Located.{a_number, no_node, in_cell, value, word, node_words, stored_number, stored_none, occurrences}
+use Rattle.standing.specs.Inputs.{LocatedEntry, input, entry_words, entry_value, entries_occurrences, KeptEntry, KeptEntries, one_entry}
+use Rattle.standing.specs.Moments.{open_with, Stands, open_stands, sound_open}
+use Rattle.standing.specs.Serving.{pushed, joined, joined_entry, fed_on_words}
 use Rattle.standing.specs.Law.{Takeable}
 use Rattle.standing.specs.Calls.{Serves}
 use Rattle.standing.proofs.Lists.{map_length}

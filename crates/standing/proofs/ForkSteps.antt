@@ -1,17 +1,17 @@
 -- Match on words. Rests on rows and frames.
-use Rattle.std.proofs.Common.{◌≡◌, ℕ, zero, suc, ◌+◌, ◌<◌, ◌≤◌, Bool, true, false, cond, eqb, List, [], ◌∷◌, map, length, set, Some, None, sym, refl, ap, ◌∙◌, subst, arith, length-set}
+use Rattle.std.proofs.Common.{◌≡◌, ℕ, zero, suc, ◌+◌, ◌<◌, false, cond, eqb, List, ◌∷◌, map, length, set, Some, None, sym, refl, ap, ◌∙◌, subst, arith, length-set}
 use Rattle.std.proofs.lemmas.Bool.{eq-eqb, ne_eqb}
 use Rattle.records.specs.declared.kinds.NodeType.{NodeType}
 use Rattle.records.specs.declared.kinds.Step.TheVariants.{Match}
 use Rattle.cells.specs.Cells.{Map, without, one_if}
 use Rattle.rules.specs.Limits.{slot_count}
-use Rattle.rules.specs.Types.{Ty, number, list, type_record, type_of, ElementsLower}
+use Rattle.rules.specs.Types.{Ty, list, type_record, type_of, ElementsLower}
 use Rattle.rules.specs.Programs.{Program}
 use Rattle.rules.specs.Branches.{ListType}
-use Rattle.rules.specs.Contexts.{Context, in_slot, used, bound, Binds}
+use Rattle.rules.specs.Contexts.{Context, in_slot, used, Binds}
 use Rattle.rules.proofs.Numbered.{type_of_list}
 use Rattle.rules.proofs.Truth.{impossible}
-use Rattle.plain.specs.Values.{Value, num, empty, node, HasType, is_num, is_empty, is_node}
+use Rattle.plain.specs.Values.{Value, num, empty, node, HasType, is_node}
 use Rattle.plain.specs.Slots.{Slots, value_in, after_use}
 use Rattle.plain.specs.Slots as plain_slots
 use Rattle.plain.specs.Reading as plain
@@ -19,15 +19,15 @@ use Rattle.plain.specs.Fitting.{Filled}
 use Rattle.plain.proofs.Values.{covers_itself}
 use Rattle.plain.proofs.Slots.{filled_inside}
 use Rattle.plain.proofs.Uses.{use_slot, bind_slot, binds_beside}
-use Rattle.standing.specs.declared.frames.Slot.TheVariants.{Number, ListOf}
+use Rattle.standing.specs.declared.frames.Slot.TheVariants.{ListOf}
 use Rattle.standing.specs.Located.{Located, a_number, no_node, in_cell, value, word, node_words, Stored, one_where_same, occurrences}
-use Rattle.standing.specs.Rows.{LocatedSlot, vacant, with_number, with_list, Row, located_in, slot_words, row_words, slot_value, row_values, slot_occurrences, row_occurrences, used_located, Kept, kept_vacant, kept_number, kept_list, KeptRow}
+use Rattle.standing.specs.Rows.{LocatedSlot, vacant, with_number, with_list, located_in, slot_words, row_words, slot_value, row_values, slot_occurrences, row_occurrences, used_located, Kept, kept_vacant, kept_number, kept_list}
 use Rattle.standing.specs.Stepping.{slot_in, slot_word, slot_type, as_slot, used_words, words_in, taken_apart, word_frame, Effect, goes_on, effect}
 use Rattle.standing.specs.Standing.{LocatedFrame, frame_words, frame_values, frames_occurrences, KeptFrames, StandsFor}
-use Rattle.standing.proofs.Lists.{map_at, map_set, map_length}
-use Rattle.standing.proofs.Cells.{one_here, stored_beside, held_after_removal, Parts, parts}
+use Rattle.standing.proofs.Lists.{map_at, map_length}
+use Rattle.standing.proofs.Cells.{one_here, stored_beside, held_after_removal, parts}
 use Rattle.standing.proofs.Rows.{words_in_slot, words_after_use, values_after_use, occurrences_after_use, kept_at, kept_use, kept_set, row_beside, as_list}
-use Rattle.standing.proofs.Bindings.{Binding, binding}
+use Rattle.standing.proofs.Bindings.{binding}
 use Rattle.standing.proofs.Runs.{frames_beside, newest, goes_on_with, by_list}
 
 -- a slot that has a list

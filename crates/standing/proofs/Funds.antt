@@ -1,28 +1,24 @@
 -- Fund on words. Rests on entries, on the moving of slots into a frame, and on the law of amounts.
-use Rattle.std.proofs.Common.{◌≡◌, ℕ, zero, suc, ◌+◌, ◌-◌, ◌<◌, ◌≤◌, Bool, true, false, cond, leb, List, [], ◌∷◌, map, reverse, length, take, replicate, Some, None, sym, refl, ap, ◌∙◌, subst, arith}
-use mathlib.Core.List.{reverse_aux}
-use Rattle.records.specs.declared.kinds.NodeType.{NodeType}
-use Rattle.cells.specs.Cells.{Map, Numbered, one_if, count, free}
+use Rattle.std.proofs.Common.{◌≡◌, ℕ, ◌+◌, ◌-◌, ◌≤◌, cond, leb, List, [], ◌∷◌, map, reverse, length, take, replicate, Some, None, sym, refl, ap, ◌∙◌, arith}
+use Rattle.cells.specs.Cells.{Map, Numbered, one_if, count}
 use Rattle.rules.specs.Limits.{slot_count}
 use Rattle.rules.specs.Lawful.{Lawful}
-use Rattle.plain.specs.Calls.{Refusal, refused_with, accepted, other_parameters, too_dear}
+use Rattle.plain.specs.Calls.{refused_with, accepted, other_parameters, too_dear}
 use Rattle.plain.specs.States as plain
 use Rattle.plain.specs.Reading as reading
 use Rattle.plain.specs.Slots.{starting_slots}
 use Rattle.plain.specs.Feeding as feeding
 use Rattle.plain.specs.Feeding.{entry_limit, same_numbers}
-use Rattle.plain.specs.Funded.{Funded}
 use Rattle.plain.proofs.Funding.{funding_pays}
 use Rattle.standing.specs.declared.frames.Slot.TheVariants.{Vacant}
-use Rattle.standing.specs.declared.frames.Input.{Input}
-use Rattle.standing.specs.Rows.{vacant, Row, slot_words, row_words, slot_value, row_values, row_occurrences}
+use Rattle.standing.specs.Rows.{vacant, slot_words, row_words, slot_value, row_values}
 use Rattle.standing.specs.Stepping.{as_slot, moved_in, starting_words, word_frame}
 use Rattle.standing.specs.Standing.{RunStands, located_frame, one_frame, no_frames}
 use Rattle.standing.specs.Inputs.{LocatedEntry, entry_words, entry_value, entries_occurrences, KeptEntries, no_entries}
-use Rattle.standing.specs.Moments.{open_with, running_with, Stands, open_stands, run_stands, Sound, sound_open, sound_running}
-use Rattle.standing.specs.Serving.{fund_on_words, first_frame, are_parameters, price_on_words}
+use Rattle.standing.specs.Moments.{open_with, Stands, open_stands, run_stands, sound_open, sound_running}
+use Rattle.standing.specs.Serving.{fund_on_words, first_frame, price_on_words}
 use Rattle.standing.specs.Calls.{Serves}
-use Rattle.standing.proofs.Entries.{entries_typed, brought_is, held_are_the_entries, map_turned, map_both, kept_turned, occurrences_turned, length_turned, as_row, AsSlots, as_slots}
+use Rattle.standing.proofs.Entries.{entries_typed, brought_is, held_are_the_entries, map_turned, map_both, kept_turned, occurrences_turned, length_turned, as_row, as_slots}
 use Rattle.standing.proofs.Lists.{map_length}
 use Rattle.standing.proofs.CallSteps.{map_moved_in, put_as_moved, length_moved_in, moved_in_counts, moved_in_kept, all_vacant, vacant_kept, vacant_counts}
 use Rattle.standing.proofs.ForkSteps.{element_slot}

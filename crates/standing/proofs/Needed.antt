@@ -1,10 +1,10 @@
 -- A step of a funded run finds what it needs. Rests on the rules that derive it, and on the rows that stand for its slots.
-use Rattle.std.proofs.Common.{◌≡◌, ℕ, zero, suc, ◌+◌, ◌-◌, ◌<◌, ◌≤◌, true, List, [], ◌∷◌, map, length, is_some, Some, None, Option, sym, refl, ap, ◌∙◌, subst, arith}
+use Rattle.std.proofs.Common.{◌≡◌, ℕ, ◌<◌, ◌≤◌, List, [], ◌∷◌, map, length, is_some, Some, Option, sym, ap, ◌∙◌, subst, arith}
 use Rattle.records.specs.declared.kinds.Step.{Step as Action}
 use Rattle.records.specs.declared.kinds.Step.TheVariants.{Match}
 use Rattle.records.specs.declared.kinds.Record.{Record}
 use Rattle.records.specs.declared.kinds.Record.TheVariants.{Step}
-use Rattle.cells.specs.Cells.{Map, Numbered, free}
+use Rattle.cells.specs.Cells.{Map, free}
 use Rattle.rules.specs.Limits.{slot_count}
 use Rattle.rules.specs.Types.{Ty, list}
 use Rattle.rules.specs.Programs.{Program}
@@ -18,16 +18,14 @@ use Rattle.plain.specs.Values.{Value, num, empty, node, HasType}
 use Rattle.plain.specs.Charges.{charge}
 use Rattle.plain.specs.Reading as plain
 use Rattle.plain.specs.States.{Sheet, program_of}
-use Rattle.plain.specs.Fitting.{Filled}
 use Rattle.plain.specs.Paid.{Suspended, no_caller, a_caller, Paid, paid}
 use Rattle.plain.specs.Funded.{Funded}
 use Rattle.plain.proofs.Values.{covers_itself}
 use Rattle.plain.proofs.Uses.{use_slot}
-use Rattle.standing.specs.declared.frames.Frame.{Frame}
 use Rattle.standing.specs.declared.frames.Slot.{Slot}
 use Rattle.standing.specs.declared.frames.Slot.TheVariants.{ListOf}
-use Rattle.standing.specs.Located.{Located, word, Stored}
-use Rattle.standing.specs.Rows.{LocatedSlot, vacant, Row, located_in, slot_words, row_words, slot_value, row_values, KeptRow}
+use Rattle.standing.specs.Located.{word, Stored}
+use Rattle.standing.specs.Rows.{LocatedSlot, vacant, located_in, slot_words, row_words, slot_value}
 use Rattle.standing.specs.Stepping.{slot_in, slot_word, slot_type}
 use Rattle.standing.specs.Standing.{LocatedFrame, frame_words, frame_values, KeptFrames, RunStands}
 use Rattle.standing.specs.Ready.{TakenApart, Ready, AStepFindsWhatItNeeds}

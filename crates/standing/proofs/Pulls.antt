@@ -1,31 +1,29 @@
 -- Pull on words. Rests on located values and on what each call does on words.
-use Rattle.std.proofs.Common.{◌≡◌, ℕ, zero, suc, ◌+◌, ◌<◌, ◌≤◌, Bool, true, false, cond, eqb, List, [], ◌∷◌, map, length, Some, None, sym, refl, ap, ◌∙◌, subst, arith}
+use Rattle.std.proofs.Common.{◌≡◌, ℕ, ◌+◌, false, cond, eqb, [], Some, None, sym, refl, ap, ◌∙◌, subst, arith}
 use Rattle.std.proofs.lemmas.Bool.{eq-eqb, ne_eqb}
-use Rattle.records.specs.declared.kinds.NodeType.{NodeType}
 use Rattle.cells.specs.Cells.{Map, without, one_if}
-use Rattle.rules.specs.Types.{Ty, number, list, type_record, type_of, ElementsLower}
+use Rattle.rules.specs.Types.{number, list, type_record, type_of}
 use Rattle.rules.specs.Lawful.{Lawful}
 use Rattle.rules.proofs.Numbered.{type_of_list}
-use Rattle.rules.proofs.Truth.{impossible}
-use Rattle.plain.specs.Values.{Value, num, empty, node, HasType, is_num, is_empty, is_node}
+use Rattle.plain.specs.Values.{Value, HasType, is_num, is_empty, is_node}
 use Rattle.plain.specs.Calls.{pulled, at_end}
 use Rattle.plain.specs.States as plain
 use Rattle.plain.specs.Running as running
 use Rattle.plain.specs.Funded.{Numbers, no_numbers, one_number}
 use Rattle.standing.specs.declared.frames.Slot.{Slot}
 use Rattle.standing.specs.declared.frames.Slot.TheVariants.{ListOf}
-use Rattle.standing.specs.Located.{Located, a_number, no_node, in_cell, value, word, node_words, Stored, one_where_same, occurrences}
-use Rattle.standing.specs.Rows.{LocatedSlot, with_list, slot_words, slot_value, slot_occurrences, Kept, kept_list}
-use Rattle.standing.specs.Stepping.{slot_word, slot_type, words_in}
+use Rattle.standing.specs.Located.{in_cell, value, word, node_words, Stored, one_where_same, occurrences}
+use Rattle.standing.specs.Rows.{LocatedSlot, with_list, slot_words, slot_occurrences, kept_list}
+use Rattle.standing.specs.Stepping.{slot_word, words_in}
 use Rattle.standing.specs.Standing.{ResultStands}
-use Rattle.standing.specs.Inputs.{InputsStand, no_entries}
-use Rattle.standing.specs.Moments.{open_with, done_with, Stands, open_stands, done_stands, Sound, sound_open, sound_done}
+use Rattle.standing.specs.Inputs.{no_entries}
+use Rattle.standing.specs.Moments.{open_with, done_with, open_stands, done_stands, sound_open, sound_done}
 use Rattle.standing.specs.Serving.{done, pulled_node, pull_on_words}
 use Rattle.standing.specs.Calls.{Serves}
 use Rattle.standing.proofs.Cells.{one_here, stored_beside, held_after_removal, parts}
 use Rattle.standing.proofs.Rows.{as_list}
 use Rattle.standing.proofs.Bindings.{word_of_number, nothing_of_number}
-use Rattle.standing.proofs.ForkSteps.{Listed, listed, word_of_empty, nothing_of_empty, ANode, a_node, tail_typed}
+use Rattle.standing.proofs.ForkSteps.{Listed, listed, word_of_empty, nothing_of_empty, a_node, tail_typed}
 
 -- a list of Numbers has a list type
 pub numbers_typed : {v : Value} → Numbers v → HasType (list number 0) v

@@ -1,13 +1,12 @@
 -- Where a step of a funded run makes a node, a cell is free: the law of amounts, seen through the held cells.
-use Rattle.std.proofs.Common.{◌≡◌, ℕ, suc, ◌+◌, ◌-◌, ◌≤◌, List, [], ◌∷◌, length, Some, sym, refl, ap, ◌∙◌, subst, arith}
+use Rattle.std.proofs.Common.{◌≡◌, ℕ, ◌-◌, ◌≤◌, ◌∷◌, refl, ap, arith}
 use Rattle.records.specs.declared.kinds.Step.{Step as Action}
-use Rattle.records.specs.declared.kinds.Record.TheVariants.{Step}
 use Rattle.rules.specs.Types.{Ty}
 use Rattle.rules.specs.Programs.{Program}
 use Rattle.plain.specs.Slots.{Slots}
 use Rattle.plain.specs.Charges.{charge}
 use Rattle.plain.specs.Reading as plain
-use Rattle.plain.specs.States.{Sheet, program_of}
+use Rattle.plain.specs.States.{program_of}
 use Rattle.plain.specs.Funded.{IsCall, is_call, result_type, result_remainder}
 use Rattle.plain.proofs.Outcomes.{Good, good_on, good_end, good_refused}
 use Rattle.plain.proofs.Steps.{paid_goes}

@@ -1,19 +1,17 @@
 -- Rows of located slots: what a use and a binding of a slot make of them, on words, on values, and in the cells. Rests on located
 -- values and the plain slots.
-use Rattle.std.proofs.Common.{◌≡◌, ℕ, zero, suc, ◌+◌, ◌<◌, ◌≤◌, List, [], ◌∷◌, map, length, get_or, set, Some, None, Option, sym, refl, ap, ◌∙◌, subst, le_of_suc-le-suc, not-suc-le-zero, arith, length-set}
+use Rattle.std.proofs.Common.{◌≡◌, ℕ, zero, suc, ◌+◌, ◌<◌, ◌≤◌, List, [], ◌∷◌, length, set, Some, None, Option, sym, refl, ap, ◌∙◌, subst, le_of_suc-le-suc, not-suc-le-zero, arith}
 use Rattle.records.specs.declared.kinds.NodeType.{NodeType}
 use Rattle.cells.specs.declared.words.Words.{Words}
 use Rattle.cells.specs.Cells.{Map, update}
-use Rattle.rules.specs.Types.{Ty, number, list, type_of, type_record, ElementsLower}
+use Rattle.rules.specs.Types.{Ty, list, type_of, type_record, ElementsLower}
 use Rattle.rules.specs.Branches.{ListType}
 use Rattle.rules.proofs.Numbered.{type_of_list}
 use Rattle.rules.proofs.Truth.{impossible}
-use Rattle.plain.specs.Values.{Value, num, empty, node, nodes, HasType, is_num, is_empty, is_node}
-use Rattle.plain.specs.Slots.{Slots, value_in, left_value, after_use, slot_nodes, slots_nodes}
+use Rattle.plain.specs.Values.{Value, num, empty, node, HasType}
+use Rattle.plain.specs.Slots.{value_in, left_value, after_use, slot_nodes, slots_nodes}
 use Rattle.plain.proofs.Slots.{filled_inside}
-use Rattle.standing.specs.declared.frames.Slot.{Slot}
-use Rattle.standing.specs.declared.frames.Slot.TheVariants.{Vacant, Number, ListOf}
-use Rattle.standing.specs.Located.{Located, a_number, no_node, in_cell, value, word, Stored, stored_number, occurrences}
+use Rattle.standing.specs.Located.{Located, a_number, value, word, Stored, stored_number, occurrences}
 use Rattle.standing.specs.Rows.{LocatedSlot, vacant, with_number, with_list, Row, located_in, slot_words, row_words, slot_value, row_values, left_located, used_located, slot_occurrences, row_occurrences}
 use Rattle.standing.specs.Rows.{Kept, kept_vacant, kept_number, kept_list, KeptRow, kept_none, kept_more}
 use Rattle.standing.specs.Stepping.{slot_in, slot_word, left_slot, used_words}

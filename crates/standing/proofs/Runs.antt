@@ -1,5 +1,5 @@
 -- Frames that stand: a cell that they do not have may change, and a run that goes on with another newest frame. Rests on rows.
-use Rattle.std.proofs.Common.{◌≡◌, ℕ, ◌+◌, List, [], ◌∷◌, map, length, Some, None, Option, sym, refl, ap, ◌∙◌, subst, arith}
+use Rattle.std.proofs.Common.{◌≡◌, ℕ, ◌+◌, List, ◌∷◌, map, length, Some, Option, sym, ap, subst, arith}
 use Rattle.records.specs.declared.kinds.NodeType.{NodeType}
 use Rattle.cells.specs.declared.words.Words.{Words}
 use Rattle.cells.specs.Cells.{Map, update, one_if}
@@ -8,10 +8,9 @@ use Rattle.plain.specs.Values.{Value, num}
 use Rattle.plain.specs.Slots.{Slots}
 use Rattle.plain.specs.Reading as plain
 use Rattle.standing.specs.declared.frames.Slot.{Slot}
-use Rattle.standing.specs.declared.frames.Frame.{Frame}
 use Rattle.standing.specs.Rows.{Row, row_words, row_values, row_occurrences, KeptRow}
 use Rattle.standing.specs.Stepping.{word_frame, Effect, goes_on}
-use Rattle.standing.specs.Standing.{LocatedFrame, located_frame, frame_words, frame_values, frames_occurrences, KeptFrames, no_frames, one_frame, RunStands, StandsFor, stands_on}
+use Rattle.standing.specs.Standing.{LocatedFrame, located_frame, frame_words, frame_values, frames_occurrences, KeptFrames, no_frames, one_frame, StandsFor, stands_on}
 use Rattle.standing.proofs.Rows.{row_beside}
 
 pub frames_beside : {ts : List NodeType} {m : Map} {Ls : List LocatedFrame} (k : ℕ) (entry : Option Words) → KeptFrames ts m Ls →

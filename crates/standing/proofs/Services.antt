@@ -1,9 +1,9 @@
 -- A whole service answers as the plain service does: call after call. Rests on the theorem about one call.
-use Rattle.std.proofs.Common.{◌≡◌, ℕ, List, [], ◌∷◌, refl, ap, ◌∙◌}
+use Rattle.std.proofs.Common.{ℕ, List, ◌∷◌, refl, ap, ◌∙◌}
 use Rattle.cells.specs.Cells.{Map}
 use Rattle.plain.specs.Calls.{Request, Answer}
 use Rattle.plain.specs.States as plain
-use Rattle.plain.specs.Service.{answer_to, answers_to, state_after}
+use Rattle.plain.specs.Service.{answer_to, state_after}
 use Rattle.standing.specs.Moments.{Moment, Stands, bare_stands, Sound, sound_bare}
 use Rattle.standing.specs.Services.{Service, no_call, one_call, ServedAlike, ServicesAnswerAlike}
 use Rattle.standing.proofs.Calls.{calls_keep_standing}

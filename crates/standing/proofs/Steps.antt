@@ -1,25 +1,23 @@
 -- Every step of a funded run keeps standing: one case for each rule. Rests on the kinds of steps.
-use Rattle.std.proofs.Common.{◌≡◌, ℕ, zero, suc, ◌+◌, ◌<◌, ◌≤◌, List, [], ◌∷◌, map, length, get_or, take, Some, None, Option, sym, refl, ap, ◌∙◌, subst}
+use Rattle.std.proofs.Common.{◌≡◌, ℕ, ◌+◌, List, [], ◌∷◌, map, take, Option, sym, refl, subst}
 use Rattle.records.specs.declared.kinds.Record.{Record}
-use Rattle.records.specs.declared.kinds.Record.TheVariants.{Step}
 use Rattle.cells.specs.Cells.{Map, one_if}
 use Rattle.rules.specs.Types.{Ty, ElementsLower}
-use Rattle.rules.specs.Programs.{Program, signature_of}
+use Rattle.rules.specs.Programs.{Program}
 use Rattle.rules.specs.Branches.{Branch}
 use Rattle.rules.specs.Contexts.{Context, Passes}
 use Rattle.rules.specs.Rules.{parameters, Derives, derive_const, derive_arith, derive_empty, derive_cons, derive_call, derive_return, derive_match, derive_if}
 use Rattle.plain.specs.Reading as plain
-use Rattle.plain.specs.States.{Sheet, program_of}
+use Rattle.plain.specs.States.{program_of}
 use Rattle.plain.specs.Fitting.{Filled}
 use Rattle.plain.specs.Paid.{Suspended, Paid, paid}
 use Rattle.plain.specs.Funded.{Funded}
 use Rattle.plain.proofs.Outcomes.{fields_at}
 use Rattle.plain.proofs.CallSteps.{AllCallable}
 use Rattle.plain.proofs.Callable.{all_callable}
-use Rattle.standing.specs.declared.frames.Frame.{Frame}
-use Rattle.standing.specs.Rows.{row_words, row_values, row_occurrences}
+use Rattle.standing.specs.Rows.{row_values, row_occurrences}
 use Rattle.standing.specs.Stepping.{effect_at, step_on_words}
-use Rattle.standing.specs.Standing.{LocatedFrame, frame_words, frame_values, frames_occurrences, KeptFrames, RunStands, StandsFor}
+use Rattle.standing.specs.Standing.{LocatedFrame, frame_words, frame_values, frames_occurrences, KeptFrames, StandsFor}
 use Rattle.standing.specs.Law.{Takeable, StepsKeepStanding}
 use Rattle.standing.proofs.StraightSteps.{const_stands, arith_stands, empty_stands, cons_stands, if_stands}
 use Rattle.standing.proofs.ForkSteps.{match_stands}

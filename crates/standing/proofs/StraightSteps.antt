@@ -1,6 +1,5 @@
 -- Const, Arith, Empty, Cons and If on words. Rests on rows and frames.
-use Rattle.std.proofs.Common.{◌≡◌, ℕ, ◌+◌, ◌<◌, ◌≤◌, List, [], ◌∷◌, map, length, set, Some, None, sym, refl, ap, ◌∙◌, subst, arith, length-set}
-use Rattle.records.specs.declared.kinds.NodeType.{NodeType}
+use Rattle.std.proofs.Common.{◌≡◌, ℕ, ◌+◌, ◌<◌, List, ◌∷◌, map, length, set, Some, sym, refl, ap, ◌∙◌, subst, arith}
 use Rattle.records.specs.declared.kinds.Step.{Step as Action}
 use Rattle.records.specs.declared.kinds.Step.TheVariants.{Const, Arith, Empty, Cons, If}
 use Rattle.cells.specs.Cells.{Map, put, one_if}
@@ -9,25 +8,23 @@ use Rattle.rules.specs.Types.{Ty, number, list, type_of, ElementsLower}
 use Rattle.rules.specs.Programs.{Program}
 use Rattle.rules.specs.Branches.{ListType}
 use Rattle.rules.specs.Contexts.{Context, used, Uses, Binds}
-use Rattle.rules.proofs.Truth.{impossible}
-use Rattle.plain.specs.Values.{Value, num, empty, node, HasType, is_empty, is_node}
+use Rattle.plain.specs.Values.{num, empty, node, HasType, is_empty, is_node}
 use Rattle.plain.specs.Slots.{Slots, value_in, after_use, slot_nodes}
 use Rattle.plain.specs.Slots as plain_slots
 use Rattle.plain.specs.Reading as plain
 use Rattle.plain.specs.Fitting.{Filled}
-use Rattle.plain.proofs.Slots.{fits_at, no_list_bare}
 use Rattle.plain.proofs.Uses.{use_slot, number_at}
 use Rattle.standing.specs.declared.frames.Slot.TheVariants.{Number, ListOf}
-use Rattle.standing.specs.Located.{Located, a_number, no_node, in_cell, value, word, node_words, stored_none}
-use Rattle.standing.specs.Rows.{LocatedSlot, with_number, with_list, Row, slot_words, row_words, slot_value, row_values, slot_occurrences, row_occurrences, used_located, Kept, kept_number, kept_list, KeptRow}
+use Rattle.standing.specs.Located.{no_node, in_cell, value, word, node_words, stored_none}
+use Rattle.standing.specs.Rows.{LocatedSlot, with_number, with_list, slot_words, row_words, slot_value, row_values, slot_occurrences, row_occurrences, used_located, Kept, kept_number, kept_list}
 use Rattle.standing.specs.Stepping.{slot_in, slot_word, used_words, word_frame, goes_on, effect}
 use Rattle.standing.specs.Standing.{LocatedFrame, frame_words, frame_values, frames_occurrences, KeptFrames, StandsFor}
 use Rattle.standing.specs.Law.{Takeable}
-use Rattle.standing.proofs.Lists.{map_at, map_set, map_length}
+use Rattle.standing.proofs.Lists.{map_length}
 use Rattle.standing.proofs.Cells.{held_after_put, stored_new}
-use Rattle.standing.proofs.Rows.{words_after_use, values_after_use, occurrences_after_binding, kept_set, row_beside, taken}
-use Rattle.standing.proofs.Bindings.{word_of_number, nothing_of_number, Binding, binding}
-use Rattle.standing.proofs.Runs.{frames_beside, Newest, newest, goes_on_with, by_value, by_number}
+use Rattle.standing.proofs.Rows.{words_after_use, values_after_use, kept_set, row_beside, taken}
+use Rattle.standing.proofs.Bindings.{word_of_number, nothing_of_number, binding}
+use Rattle.standing.proofs.Runs.{frames_beside, newest, goes_on_with, by_value, by_number}
 
 module _ (p : Program) (lower : ElementsLower p.types) (m : Map) (k : ℕ) (L : LocatedFrame) (Ls : List LocatedFrame)
     (kept : KeptFrames p.types m (L ∷ Ls)) (owned : (c : ℕ) → row_occurrences c L.row + frames_occurrences c Ls ≡ one_if (m c))

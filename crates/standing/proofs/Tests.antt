@@ -1,10 +1,10 @@
 -- What was done on words against what the plain service did, through the tests of a call. Rests on what each call does on words.
-use Rattle.std.proofs.Common.{◌≡◌, ℕ, Bool, true, false, cond, List, [], ◌∷◌, map, sym, refl, ap, ◌∙◌, subst}
+use Rattle.std.proofs.Common.{◌≡◌, ℕ, Bool, true, false, cond, sym, refl, subst}
 use Rattle.cells.specs.Cells.{Map}
 use Rattle.plain.specs.Calls.{Refusal}
 use Rattle.plain.specs.States as plain
 use Rattle.standing.specs.Moments.{Moment, Stands, Sound}
-use Rattle.standing.specs.Serving.{Done, done, refuse}
+use Rattle.standing.specs.Serving.{Done, refuse}
 use Rattle.standing.specs.Calls.{Serves}
 
 module _ {capacity : ℕ} where

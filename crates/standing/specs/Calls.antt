@@ -1,6 +1,6 @@
 -- Every call keeps standing: what it does on words stands for what it does to the plain service, with the same answer. Rests on
 -- what each call does on words.
-use Rattle.std.specs.Prelude.{◌≡◌, ℕ, zero, suc, ◌+◌, ◌≤◌, List, [], ◌∷◌}
+use Rattle.std.specs.Prelude.{◌≡◌, ℕ, zero, suc, ◌+◌, ◌≤◌, List}
 use Rattle.cells.specs.Cells.{Map, Numbered, count, free}
 use Rattle.plain.specs.Calls.{Request, load, feed, fund, one_step, advance, pull, abandon, ask_price, ask_free, ask_held, ask_state}
 use Rattle.plain.specs.Calls.{advance_excluded, too_deep_after, refused_with, in_phase, advanced, counted, is_running, is_done}

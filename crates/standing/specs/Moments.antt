@@ -1,13 +1,13 @@
 -- The moments of a service on words, and what they stand for. Rests on frames, input stack and result.
-use Rattle.std.specs.Prelude.{◌≡◌, ℕ, ◌+◌, ◌-◌, ◌≤◌, List, [], ◌∷◌}
+use Rattle.std.specs.Prelude.{ℕ, List}
 use Rattle.cells.specs.Cells.{Map, Unheld}
 use Rattle.rules.specs.Lawful.{Lawful}
-use Rattle.plain.specs.Values.{Value, nodes, HasType}
+use Rattle.plain.specs.Values.{Value}
 use Rattle.plain.specs.Reading as plain
 use Rattle.plain.specs.Calls.{Phase, is_bare, is_open, is_running, is_done}
 use Rattle.plain.specs.States as plain_states
 use Rattle.plain.specs.States.{Sheet, State, Entry}
-use Rattle.plain.specs.Funded.{Numbers, Funded, result_type}
+use Rattle.plain.specs.Funded.{Numbers, Funded}
 use Rattle.standing.specs.declared.frames.Slot.{Slot}
 use Rattle.standing.specs.declared.frames.Frame.{Frame}
 use Rattle.standing.specs.declared.frames.Input.{Input}

@@ -1,6 +1,6 @@
 -- What a step of a funded run finds, on words: all that it needs, with no test. Rests on the law of amounts and on what words stand
 -- for.
-use Rattle.std.specs.Prelude.{◌≡◌, ℕ, ◌<◌, ◌≤◌, true, List, [], ◌∷◌, length, is_some, Some, ◌≢◌}
+use Rattle.std.specs.Prelude.{◌≡◌, ℕ, ◌<◌, ◌≤◌, true, List, ◌∷◌, length, is_some, Some, ◌≢◌}
 use Rattle.records.specs.declared.kinds.Step.{Step as Action}
 use Rattle.records.specs.declared.kinds.Step.TheVariants.{Match}
 use Rattle.records.specs.declared.kinds.Record.TheVariants.{Step}

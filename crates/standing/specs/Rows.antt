@@ -1,6 +1,6 @@
 -- Rows of slots whose lists have the numbers of their cells: slots of a frame, or entries of an input stack. Rests on located
 -- values.
-use Rattle.std.specs.Prelude.{◌≡◌, ℕ, ◌+◌, List, [], ◌∷◌, map, Some, None, Option, slice_index_or, slice_set}
+use Rattle.std.specs.Prelude.{ℕ, ◌+◌, List, [], ◌∷◌, map, Some, None, Option, slice_index_or, slice_set}
 use Rattle.records.specs.declared.kinds.NodeType.{NodeType}
 use Rattle.cells.specs.Cells.{Map}
 use Rattle.rules.specs.Types.{type_of}

@@ -1,15 +1,15 @@
 -- What each call does on words: its answer, the moment after it, and the cells then. Rests on moments and on what a step does.
-use Rattle.std.specs.Prelude.{ℕ, ◌+◌, Bool, true, false, cond, List, [], ◌∷◌, map, reverse, length, take, Some, None, Ok, Err, Option, Result, ◌==◌, nat_le, nat_lt}
+use Rattle.std.specs.Prelude.{ℕ, ◌+◌, Bool, cond, List, [], ◌∷◌, map, reverse, length, take, Some, None, Ok, Err, Option, Result, ◌==◌, nat_le, nat_lt}
 use Rattle.records.specs.declared.faults.Fault.{Fault}
 use Rattle.records.specs.declared.kinds.NodeType.{NodeType}
 use Rattle.cells.specs.declared.words.Words.{Words}
-use Rattle.cells.specs.Cells.{Map, empty, put, without, count, free}
+use Rattle.cells.specs.Cells.{Map, empty, put, without, free}
 use Rattle.rules.specs.Types.{type_record}
 use Rattle.rules.specs.Programs.{Tables}
 use Rattle.rules.specs.Tests.{both, is_list_type}
 use Rattle.rules.specs.Verdict.{verdict}
 use Rattle.plain.specs.Calls.{Refusal, excluded, bad_sheet, bad_record, bad_type, too_few_entries, other_type, too_many_entries, other_parameters, too_dear, too_deep, no_free_cell}
-use Rattle.plain.specs.Calls.{Answer, accepted, in_phase, pulled, at_end, counted, refused_with, is_running, is_done}
+use Rattle.plain.specs.Calls.{Answer, accepted, in_phase, pulled, at_end, refused_with, is_running, is_done}
 use Rattle.plain.specs.States.{Sheet, program_of, main_function}
 use Rattle.plain.specs.Feeding.{Fed, a_number, an_empty, a_node, fed, entry_limit, same_numbers}
 use Rattle.standing.specs.declared.frames.Slot.{Slot}

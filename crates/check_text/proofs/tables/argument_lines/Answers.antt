@@ -1,4 +1,4 @@
-use Rattle.std.proofs.Common.{◌≡◌, ℕ, suc, ◌+◌, ◌-◌, ltb, get_or, string_bytes, sym, refl, ◌∙◌, arith, le-ltb, lt-ltb}
+use Rattle.std.proofs.Common.{◌≡◌, suc, ◌+◌, ◌-◌, ltb, get_or, string_bytes, refl, ◌∙◌, arith, le-ltb, lt-ltb}
 use Rattle.std.proofs.lemmas.Bool.{cond-true, cond-false}
 use Rattle.sheet.specs.Sheets.{sheet_tables}
 use Rattle.check_text.specs.Reports.{parameter_at, argument_line, argument_lines}

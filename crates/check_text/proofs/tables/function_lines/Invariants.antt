@@ -1,5 +1,5 @@
 -- The lines so far, and those of the entries that are left, are the lines of the table.
-use Rattle.std.proofs.Common.{◌≡◌, ◌+◌, ◌-◌, ◌++◌, string_bytes}
+use Rattle.std.proofs.Common.{◌≡◌, ◌-◌, ◌++◌, string_bytes}
 use Rattle.sheet.specs.Sheets.{sheet_tables, function_at}
 use Rattle.check_text.specs.Reports.{lines_from, function_line, function_lines}
 use Rattle.check_text.proofs.tables.function_lines.Given as goal

@@ -1,4 +1,4 @@
-use Rattle.std.proofs.Common.{◌≡◌, ℕ, suc, ◌+◌, ◌-◌, List, string_bytes, sym, ◌∙◌, arith}
+use Rattle.std.proofs.Common.{◌≡◌, suc, ◌+◌, ◌-◌, string_bytes, sym, ◌∙◌, arith}
 use Rattle.sheet.specs.Sheets.{sheet_tables, list_type_at}
 use Rattle.check_text.specs.Reports.{type_line, type_lines}
 use Rattle.check_text.proofs.Tabled.{entry_more, entry_missing, table_full}

@@ -1,4 +1,4 @@
-use Rattle.std.proofs.Common.{◌≡◌, ℕ, ◌+◌, ◌≤◌, List, ◌++◌, drop, string_bytes, sym, ap, ◌∙◌, arith}
+use Rattle.std.proofs.Common.{◌≡◌, ℕ, ◌+◌, List, ◌++◌, drop, string_bytes, sym, ap, ◌∙◌, arith}
 use Rattle.records.specs.declared.kinds.Record.{Record}
 use Rattle.records.specs.Rows.{row}
 use Rattle.records.proofs.Positive.{size_positive}

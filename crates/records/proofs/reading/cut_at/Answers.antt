@@ -1,4 +1,4 @@
-use Rattle.std.proofs.Common.{◌≡◌, ◌+◌, ◌-◌, ◌≤◌, length, take, drop, sym, ap, ◌∙◌, subst, arith, length-drop}
+use Rattle.std.proofs.Common.{◌≡◌, ◌-◌, ◌≤◌, length, take, drop, sym, ap, ◌∙◌, subst, arith, length-drop}
 use mir.Facts.{Fits-lt-pow}
 use Rattle.std.proofs.lemmas.List.{take_rest}
 use Rattle.records.specs.Cutting.{cut, moved}

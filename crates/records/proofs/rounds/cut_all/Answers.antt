@@ -1,4 +1,4 @@
-use Rattle.std.proofs.Common.{◌≡◌, ◌+◌, ◌≤◌, drop, sym, ap, ◌∙◌, arith}
+use Rattle.std.proofs.Common.{drop, sym, ap, ◌∙◌, arith}
 use Rattle.records.specs.Rows.{row}
 use Rattle.records.specs.FirstRound.{tallied, records_in}
 use Rattle.records.proofs.Positive.{size_positive}

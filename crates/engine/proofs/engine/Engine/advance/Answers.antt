@@ -1,9 +1,9 @@
-use Rattle.std.proofs.Common.{◌≡◌, ℕ, ◌+◌, ◌<◌, ◌≤◌, Ok, Err, sym, refl, ap, ◌∙◌, subst, arith}
-use Rattle.plain.specs.Calls.{advance, advanced, is_done, is_running, refused_with, too_deep_after}
+use Rattle.std.proofs.Common.{◌≡◌, ◌≤◌, Ok, Err, sym, subst, arith}
+use Rattle.plain.specs.Calls.{advance, advanced, is_done, refused_with, too_deep_after}
 use Rattle.inner.specs.declared.kept.State.TheVariants.{Running, Done}
 use Rattle.inner.proofs.Advancing.{state_behind_step}
 use Rattle.engine.specs.declared.faults.EngineFault.TheVariants.{TooDeepAfter}
-use Rattle.engine.specs.Service.{cells_of, capacity_of, CallMade}
+use Rattle.engine.specs.Service.{cells_of, CallMade}
 use Rattle.engine.specs.Rows.{Advanced}
 use Rattle.engine.proofs.Rows.{none_passed, one_passed, Passed, excluded_advance, full_advance, ended_advance, refused_advance}
 use Rattle.engine.proofs.engine.Engine.advance.Goals as goal

@@ -1,4 +1,4 @@
-use Rattle.std.proofs.Common.{◌≡◌, ℕ, ◌<◌, ◌≤◌, List, map, reverse, length, take, drop, sym, refl, ap, ◌∙◌, arith, length-take, eq-eqb, ne_eqb}
+use Rattle.std.proofs.Common.{◌≡◌, ◌<◌, ◌≤◌, map, reverse, length, take, drop, sym, ap, ◌∙◌, arith, length-take, eq-eqb, ne_eqb}
 use Rattle.plain.specs.Feeding.{same_numbers}
 use Rattle.standing.specs.declared.frames.Input.{Input}
 use Rattle.standing.proofs.Lists.{map_length}

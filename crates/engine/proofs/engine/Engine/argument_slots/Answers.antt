@@ -1,7 +1,7 @@
-use Rattle.std.proofs.Common.{◌≡◌, ℕ, ◌+◌, ◌<◌, ◌≤◌, List, map, reverse, length, take, drop, set, sym, refl, ap, ◌∙◌, arith, length-set}
+use Rattle.std.proofs.Common.{◌+◌, ◌≤◌, map, length, take, drop, set, sym, ap, ◌∙◌, arith, length-set}
 use Rattle.standing.specs.declared.frames.Input.{Input}
 use Rattle.standing.specs.Stepping.{as_slot, moved_in, starting_words}
-use Rattle.inner.specs.Meant.{input_stack, no_input}
+use Rattle.inner.specs.Meant.{no_input}
 use Rattle.inner.proofs.Stacks.{newest_reversed}
 use Rattle.inner.proofs.Passing.{all_passed}
 use Rattle.inner.proofs.Funding.{moved_more}

@@ -1,4 +1,4 @@
-use Rattle.std.proofs.Common.{◌+◌, ◌≤◌, ap, arith}
+use Rattle.std.proofs.Common.{◌+◌, ap, arith}
 use Rattle.standing.specs.Serving.{brought}
 use Rattle.inner.specs.Meant.{no_input}
 use Rattle.inner.proofs.Stacks.{newest_more}

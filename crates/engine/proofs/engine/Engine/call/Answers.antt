@@ -1,4 +1,4 @@
-use Rattle.std.proofs.Common.{◌≡◌, ◌+◌, ◌<◌, ◌≤◌, get_or, take, drop, set, sym, refl, ap, ◌∙◌, arith, length-set}
+use Rattle.std.proofs.Common.{◌+◌, get_or, take, drop, set, sym, ap, ◌∙◌, length-set}
 use Rattle.standing.specs.Stepping.{used_words, left_behind, word_frame}
 use Rattle.inner.specs.Changes.{with_slots, with_call}
 use Rattle.inner.proofs.Passing.{padded_length, padded_at, passed, passed_more, left_more, all_passed}

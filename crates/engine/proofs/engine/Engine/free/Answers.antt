@@ -1,4 +1,4 @@
-use Rattle.std.proofs.Common.{sym, refl, ap, subst}
+use Rattle.std.proofs.Common.{sym, refl, subst}
 use Rattle.plain.specs.Calls.{ask_free, counted}
 use Rattle.inner.proofs.Opening.{free_does}
 use Rattle.engine.specs.Service.{cells_of, capacity_of, CallDoes}

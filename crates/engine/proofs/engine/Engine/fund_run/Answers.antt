@@ -1,4 +1,4 @@
-use Rattle.std.proofs.Common.{◌≡◌, ℕ, ◌<◌, ◌≤◌, Bool, map, reverse, length, take, Some, sym, refl, ap, ◌∙◌, subst, arith}
+use Rattle.std.proofs.Common.{◌≡◌, ◌<◌, ◌≤◌, Bool, map, reverse, length, take, Some, sym, refl, ap, ◌∙◌, subst}
 use Rattle.cells.specs.Cells.{free}
 use Rattle.rules.specs.Limits.{parameter_limit}
 use Rattle.rules.specs.declared.functions.FunctionEntry.{FunctionEntry}
@@ -7,7 +7,6 @@ use Rattle.plain.specs.States.{main_function}
 use Rattle.sheet.specs.declared.passed.Sheet.{Sheet as LoadedSheet}
 use Rattle.sheet.proofs.Known.{sheet_lawful}
 use Rattle.standing.specs.declared.frames.Input.{Input}
-use Rattle.standing.specs.declared.frames.Slot.{Slot}
 use Rattle.standing.specs.Serving.{are_parameters, price}
 use Rattle.standing.specs.Stepping.{word_frame}
 use Rattle.inner.specs.declared.kept.Inner.{Inner}

@@ -1,8 +1,8 @@
-use Rattle.std.proofs.Common.{◌≡◌, ℕ, ◌+◌, ◌<◌, ◌≤◌, length, Some, sym, refl, ap, ◌∙◌, subst, arith}
+use Rattle.std.proofs.Common.{◌≡◌, ◌+◌, ◌≤◌, sym, refl, ap, ◌∙◌, subst, arith}
 use Rattle.records.specs.declared.kinds.Step.TheVariants.{Const, Arith, Empty, Cons, Call, Return, Match, If}
 use Rattle.rules.specs.Limits.{slot_count, parameter_limit}
 use Rattle.rules.specs.Branches.{Fields, Padded}
-use Rattle.plain.specs.Calls.{one_step, in_phase, is_running, refused_with, too_deep}
+use Rattle.plain.specs.Calls.{one_step}
 use Rattle.plain.specs.Charges.{charge}
 use Rattle.plain.specs.States.{program_of}
 use Rattle.cells.specs.Cells.{free}
@@ -14,7 +14,7 @@ use Rattle.inner.specs.Serving.{ComesTo}
 use Rattle.inner.proofs.Needed.{Finds, finds}
 use Rattle.inner.proofs.ByKind.{const_does, arith_does, empty_does, cons_does, call_does, match_does, if_does, deep_does, return_does}
 use Rattle.engine.specs.declared.engine.Engine.{Engine}
-use Rattle.engine.specs.Service.{cells_of, capacity_of, InService, CallDoes}
+use Rattle.engine.specs.Service.{cells_of, capacity_of, InService}
 use Rattle.engine.proofs.Calls.{store_kept}
 use Rattle.engine.proofs.engine.Engine.make.Given.{Over}
 use Rattle.engine.proofs.engine.Engine.make.Goals as goal

@@ -1,7 +1,7 @@
-use Rattle.std.proofs.Common.{◌≡◌, ℕ, sym, refl, ap, ◌∙◌, subst}
+use Rattle.std.proofs.Common.{ℕ, sym, ap, subst}
 use Rattle.inner.specs.Serving.{PriceFits}
 use Rattle.inner.proofs.Moments.{bare_moment}
-use Rattle.standing.specs.Moments.{bare, Stands, bare_stands, sound_bare}
+use Rattle.standing.specs.Moments.{Stands, bare_stands, sound_bare}
 use Rattle.plain.specs.States as plain
 use Rattle.cells.specs.Cells.{Unheld}
 use Rattle.engine.proofs.engine.Engine.new.Goals as goal

@@ -1,4 +1,4 @@
-use Rattle.std.proofs.Common.{sym, refl, ap, subst}
+use Rattle.std.proofs.Common.{sym, refl, subst}
 use Rattle.plain.specs.Calls.{ask_state, in_phase}
 use Rattle.inner.specs.Meant.{phase_of}
 use Rattle.inner.proofs.Opening.{state_does}

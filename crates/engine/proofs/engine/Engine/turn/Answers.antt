@@ -2,7 +2,6 @@ use Rattle.std.proofs.Common.{subst, arith}
 use Rattle.plain.specs.Calls.{one_step, refused_with}
 use Rattle.inner.specs.Meant.{moment}
 use Rattle.inner.proofs.Advancing.{refused_for_depth, run_is_on}
-use Rattle.engine.specs.Answers.{refusal}
 use Rattle.engine.specs.Service.{cells_of, CallMade}
 use Rattle.engine.proofs.engine.Engine.turn.Goals as goal
 

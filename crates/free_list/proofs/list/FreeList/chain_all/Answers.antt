@@ -1,4 +1,4 @@
-use Rattle.std.proofs.Common.{◌≡◌, ℕ, sym, subst}
+use Rattle.std.proofs.Common.{ℕ, sym, subst}
 use Rattle.free_list.specs.Chain.{InOrder}
 use Rattle.free_list.specs.Places.{all_free_empty}
 use Rattle.free_list.proofs.Rising.{risen_capacity, risen_free, risen_count, risen_in_order}

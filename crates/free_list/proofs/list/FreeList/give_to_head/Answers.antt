@@ -1,4 +1,4 @@
-use Rattle.std.proofs.Common.{◌≡◌, ℕ, ◌+◌, ◌-◌, ◌<◌, ◌≤◌, set, sym, refl, ap, ◌∙◌, arith}
+use Rattle.std.proofs.Common.{◌≡◌, ℕ, ◌+◌, ◌-◌, ◌<◌, set, sym, ap, ◌∙◌, arith}
 use Rattle.cells.specs.Cells.{last_number, Held, without, count}
 use Rattle.cells.proofs.Reasoning.{removal_counts_one_less}
 use Rattle.free_list.specs.declared.lent.LentCell.{LentCell}
