@@ -1,6 +1,6 @@
 // The questions.
 ghost use Rattle.std.specs.Prelude.{◌≡◌, ◌≤◌};
-ghost use Rattle.cells.specs.Cells.{count, free as FreeIn};
+ghost use Rattle.cells.specs.Cells.{count, free as free_in};
 ghost use Rattle.engine.specs.Service.{CallMade, InService, capacity_of, cells_of};
 ghost use Rattle.inner.specs.Meant.{WellKept, input_stack, moment, phase_of};
 ghost use Rattle.inner.specs.Serving.{greatest_price};
@@ -39,7 +39,7 @@ impl<S: CellStore> Engine<S> {
 
     fn free_now(&self) -> u32
         requires ok { S.Meaning.ok self.now.store }
-        ensures { result ≡ FreeIn (capacity_of S.Meaning self.now) (cells_of S.Meaning self.now) }
+        ensures { result ≡ free_in (capacity_of S.Meaning self.now) (cells_of S.Meaning self.now) }
     {
         self.store.free()
     }

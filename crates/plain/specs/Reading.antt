@@ -1,6 +1,6 @@
 -- The plain reading of a run: a stack of frames on values, and what one step does to it. It knows no types and no amounts.
 -- Rests on slots, and on what stands at an offset of a sheet.
-use Rattle.std.specs.Prelude.{ℕ, zero, suc, ◌+◌, ◌-◌, ◌*◌, ◌%◌, ◌^◌, cond, List, [], ◌∷◌, length, get_or, take, Some, None, Option, ◌==◌, nat_le, nat_lt, slice_index_or}
+use Rattle.std.specs.Prelude.{ℕ, zero, suc, ◌+◌, ◌-◌, ◌*◌, ◌%◌, ◌^◌, cond, List, [], ◌∷◌, length, take, Some, None, Option, ◌==◌, nat_le, nat_lt, slice_index_or}
 use Rattle.records.specs.declared.kinds.Step.{Step as Action}
 use Rattle.records.specs.declared.kinds.Step.TheVariants.{Const, Arith, Empty, Cons, Call, Return, Match, If}
 use Rattle.records.specs.declared.kinds.Record.{Record}
@@ -96,7 +96,7 @@ act p (Cons d t h l) o S w fs =
     (λ y. goes_on (frame (o + step_size (Cons d t h l)) (put (after_use (after_use S h) l) d (node x y)) w ∷ fs)))
 act p (Call d f slots) o S w fs =
     cond (nat_le frame_limit (length fs + 1)) refused
-    (with_values S (take (get_or p.functions f no_function).signature.count slots)
+    (with_values S (take (slice_index_or p.functions f no_function).signature.count slots)
     (λ vs T. goes_on (entered (slice_index_or p.functions f no_function) vs d ∷ frame (o + step_size (Call d f slots)) T w ∷ fs)))
 act p (Return a) o S w fs = with_value (value_in S a) (λ v. handed_back fs w v)
 act p (Match a h l second) o S w fs =

@@ -98,14 +98,14 @@ module _ (bytes : List ℕ) (t : Tables) (lower : ElementsLower t.types) where
   sound (chain_next {o} {r = Step s} {rest} f ch) (within g c ws) q =
       sound_step g s o rest f (λ stage e. sound ch stage e) c ws (found_of bytes t g lower (length ws) c o s) q
 
-  pub record Laid_out (o : ℕ) : Type 0 where
+  pub record LaidOut (o : ℕ) : Type 0 where
     pub entries : List FunctionEntry
     pub layout : Layout bytes t o entries
     pub each : Each bytes t entries
 
   -- what the third round passes is laid out, and each function derives
-  pub passed_derives : {r : Row} {o : ℕ} → Chain bytes r o → bodies_pass t r between ≡ Ok tt → Laid_out o
+  pub passed_derives : {r : Row} {o : ℕ} → Chain bytes r o → bodies_pass t r between ≡ Ok tt → LaidOut o
   passed_derives ch q = opened (sound ch between q)
     where
-      opened : {o : ℕ} → FunctionsDerive o → Laid_out o
+      opened : {o : ℕ} → FunctionsDerive o → LaidOut o
       opened (functions {fs} l e) = record { entries = fs; layout = l; each = e }

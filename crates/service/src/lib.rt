@@ -1,5 +1,4 @@
-// A whole service of an engine over any store: a row of calls, the answers to them, and the law that holds of it all. Rests on
-// engine.
+// The calls of a whole service of an engine over any store, and the answers to them, as values. Rests on engine.
 #![tactic(auto)]
 
 mod calls;

@@ -1,6 +1,6 @@
 -- What a step does on words: to the frames of an engine and to the map of its store. Rests on slots and frames as an engine keeps
 -- them, and on the meaning of a store.
-use Rattle.std.specs.Prelude.{ℕ, ◌+◌, cond, List, [], ◌∷◌, length, get_or, take, replicate, Some, None, Option, ◌==◌, nat_le, slice_index_or, slice_set}
+use Rattle.std.specs.Prelude.{ℕ, ◌+◌, cond, List, [], ◌∷◌, length, take, replicate, Some, None, Option, ◌==◌, nat_le, slice_index_or, slice_set}
 use Rattle.records.specs.declared.kinds.NodeType.{NodeType}
 use Rattle.records.specs.declared.kinds.Step.{Step as Action}
 use Rattle.records.specs.declared.kinds.Step.TheVariants.{Const, Arith, Empty, Cons, Call, Return, Match, If}
@@ -103,9 +103,9 @@ effect p (Cons d t h l) o S w fs m k =
     (put m k (node_words (slot_word (slot_in S h)) (slot_word (slot_in (used_words S h) l))))
 effect p (Call d f slots) o S w fs m k =
     cond (nat_le frame_limit (length fs + 1)) refused
-    (goes_on (word_frame (get_or p.functions f no_function).body
-    (starting_words (moved_out S (take (get_or p.functions f no_function).signature.count slots))) d ∷
-    (word_frame (o + step_size (Call d f slots)) (left_behind S (take (get_or p.functions f no_function).signature.count slots)) w ∷ fs)) m)
+    (goes_on (word_frame (slice_index_or p.functions f no_function).body
+    (starting_words (moved_out S (take (slice_index_or p.functions f no_function).signature.count slots))) d ∷
+    (word_frame (o + step_size (Call d f slots)) (left_behind S (take (slice_index_or p.functions f no_function).signature.count slots)) w ∷ fs)) m)
 effect p (Return a) o S w fs m k = handed_back fs w (slot_in S a) m
 effect p (Match a h l second) o S w fs m k =
     cond (slot_word (slot_in S a) == 0)
