@@ -15,12 +15,9 @@ NAME = r"[A-Za-z_][\w']*(?:-[\w']+)+"
 TOKEN = re.compile(r"(?<![\w'+\-])(" + NAME + r")(?![\w'+\-])")
 MADE = re.compile(r"^(invariant|decreases|ghost|ghosts)-")
 USE = re.compile(r"(?:ghost )?use\s+([\w.'·-]+)\.\{([^}]*)\}", re.S)
-OTHER = {}
 
 
 def spelled(name):
-    if name in OTHER:
-        return OTHER[name]
     if name[0].isupper():
         return "".join(part[0].upper() + part[1:] for part in name.split("-"))
     return name.replace("-", "_")
@@ -118,13 +115,13 @@ def turn_answers(text, known):
                 out.append(x if keep and x not in own else spelled(x))
             elif i == 1 and made or x.startswith("in-") and made or (x.endswith("-is") and made):
                 out.append(x)
-            elif MADE_FIELDS(parts, i, made):
+            elif made_field(parts, i, made):
                 out.append(x)
             else:
                 out.append(spelled(x))
         return ".".join(out)
 
-    def MADE_FIELDS(parts, i, made):
+    def made_field(parts, i, made):
         # c.STEP.new.x and the like are names of the code, which have no dash
         return made and parts[i - 1] in ("args", "new", "initial", "fn", "auto", "type_inv", "ranges")
 

@@ -1,6 +1,6 @@
--- What the meaning of the pool and of the quota owes the interface: which numbers are held, and that there are no more cells than
--- numbers. Rests on the places of a pool.
-use Rattle.std.specs.Prelude.{ℕ, ◌≤◌, min}
+-- What the meaning of the pool owes the interface: which numbers are held, and that there are no more cells than numbers. Rests on
+-- the places of a pool.
+use Rattle.std.specs.Prelude.{ℕ, ◌≤◌}
 use Rattle.std.proofs.Common.{arith}
 use Rattle.cells.specs.declared.pool.Pool.{Pool}
 use Rattle.cells.specs.Cells.{last_number, Numbered}
@@ -12,11 +12,3 @@ pool_small = omega arith
 
 pub pool_numbered : (pool : Pool) → Numbered (pool_cells pool)
 pool_numbered pool = numbers_held (marks_of pool) pool.rows (omega (arith, marks_long pool))
-
--- a limit over a store makes no more cells
-pub no_more_than : (limit capacity most : ℕ) → capacity ≤ most → min limit capacity ≤ most
-no_more_than limit capacity most h = omega arith
-
--- what is within both is within the lesser
-pub at_most_both : (held limit capacity : ℕ) → held ≤ limit → held ≤ capacity → held ≤ min limit capacity
-at_most_both held limit capacity under within = omega arith

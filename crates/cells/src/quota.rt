@@ -1,9 +1,9 @@
 // The quota: a limit over any store, which holds the same cells.
 ghost use Rattle.std.specs.Prelude.{◌≡◌, ◌<◌, nat_le};
-ghost use Rattle.cells.specs.Cells.{count, last_number};
+ghost use Rattle.cells.specs.Cells.{count};
 ghost use Rattle.cells.specs.Calls.{Takes, Gives, Clears};
 ghost use Rattle.cells.specs.Quota.{limit_for, quota_cells, quota_capacity, quota_code, QuotaOk, QuotaTakes, Limited};
-ghost use Rattle.cells.specs.Bounds.{no_more_than, at_most_both};
+ghost use Rattle.std.proofs.Math.Nat.{le-min, le_trans, min-le_right};
 
 use super::fault::StoreFault;
 use super::store::{CellStore, Meaning};
@@ -65,11 +65,11 @@ impl<S: CellStore> Meaning for Quota<S> {
 
     ghost ok = { QuotaOk S.Meaning.ok S.Meaning.cells };
 
-    ghost small = { λ quota ok. no_more_than quota.limit (S.Meaning.capacity quota.below) last_number (S.Meaning.small quota.below ok.below_ok) };
+    ghost small = { λ quota ok. le_trans (min-le_right quota.limit (S.Meaning.capacity quota.below)) (S.Meaning.small quota.below ok.below_ok) };
 
     ghost numbered = { λ quota ok. S.Meaning.numbered quota.below ok.below_ok };
 
-    ghost within = { λ quota ok. at_most_both (count (S.Meaning.cells quota.below)) quota.limit (S.Meaning.capacity quota.below) ok.within_limit (S.Meaning.within quota.below ok.below_ok) };
+    ghost within = { λ quota ok. le-min ok.within_limit (S.Meaning.within quota.below ok.below_ok) };
 }
 
 impl<S: CellStore> CellStore for Quota<S> {

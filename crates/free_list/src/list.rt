@@ -5,7 +5,8 @@ ghost use Rattle.cells.specs.Calls.{Takes, Gives, Clears};
 ghost use Rattle.free_list.specs.Lent.{cell_at, lent_capacity, number_at, Sought};
 ghost use Rattle.free_list.specs.Chain.{freed_cell};
 ghost use Rattle.free_list.specs.Places.{numbers_held};
-ghost use Rattle.free_list.specs.Bounds.{lent_small, held_within};
+ghost use Rattle.free_list.specs.Bounds.{held_within};
+ghost use Rattle.std.proofs.Math.Nat.{min-le_right};
 ghost use Rattle.free_list.specs.Calls.{list_code, lent_to, list_cells, list_capacity, ListOk, Chained, HeadTaken, TookHead, GaveToHead};
 
 use super::lent::LentCell;
@@ -191,7 +192,7 @@ impl Meaning for FreeList<'_> {
 
     ghost ok = { ListOk };
 
-    ghost small = { λ list _. lent_small (lent_to list) };
+    ghost small = { λ list _. min-le_right (length (lent_to list)) last_number };
 
     ghost numbered = { λ list _. numbers_held (lent_to list) };
 
