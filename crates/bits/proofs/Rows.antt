@@ -2,7 +2,7 @@
 -- changes the number that are set. Assumes nothing.
 use Rattle.std.proofs.Common.{◌≡◌, ℕ, zero, suc, ◌+◌, ◌*◌, ◌/◌, ◌%◌, ◌^◌, ◌<◌, ◌≤◌, Bool, true, false, cond, not, eqb, List, [], ◌∷◌, ◌++◌, length, get_or, take, set, replicate, sym, refl, ap, ◌∙◌, pow-suc, div-one, one-add, arith, length-append}
 use lib.Bits.{bit_xor, xor_shr, xor_mod, xor_zero_r}
-use Rattle.std.proofs.lemmas.Nat.{shr-shr, mod_below}
+use Rattle.std.proofs.lemmas.Nat.{shr-shr, mod_below, div-add-mod'}
 use Rattle.std.proofs.lemmas.List.{get_or_append_left, get_or-append_right, set-append_left, set-append_right, replicate-append-replicate}
 use Rattle.bits.specs.Flags.{bit_of, bits, flags, flag, turned, how_many}
 
@@ -74,6 +74,25 @@ flags_written (first ∷ words) zero r word b h l e =
 flags_written (first ∷ words) (suc at) r word b h l e =
     ap (λ x. bits 32 first ++ x) (flags_written words at r word b (omega arith) l e ∙ ap (λ i. set (flags words) i b) (omega arith))
     ∙ sym (set-append_right (bits 32 first) (flags words) 32 (suc at * 32 + r) b (bits_length 32 first) (omega arith))
+
+-- each flag of the row is a bit of its word
+pub flag_is_bit : (words : List ℕ) (at r place : ℕ) → place ≡ at * 32 + r → at < length words → r < 32 → flag (flags words) place ≡ bit_of (get_or words at 0) r
+flag_is_bit words at r place there inside l =
+    ap (λ i. flag (flags words) i) there ∙ flags_read words at r inside l ∙ bits_read 32 (get_or words at 0) r l
+
+-- to turn a bit of a word is to turn its flag
+pub flags_turned : (words : List ℕ) (place : ℕ) → place / 32 < length words →
+    flags (set words (place / 32) (bit_xor (get_or words (place / 32) 0) (2 ^ (place % 32)))) ≡ turned (flags words) place
+flags_turned words place inside =
+    let word : ℕ = get_or words (place / 32) 0 in
+    let r : place % 32 < 32 = mod_below place 32 (omega arith) in
+    let there : place / 32 * 32 + place % 32 ≡ place = div-add-mod' place 32 in
+    let old : flag (bits 32 word) (place % 32) ≡ flag (flags words) place =
+    bits_read 32 word (place % 32) r ∙ sym (flag_is_bit words (place / 32) (place % 32) place (sym there) inside r) in
+    let b = not (flag (flags words) place) in
+    flags_written words (place / 32) (place % 32) (bit_xor word (2 ^ (place % 32))) b inside r
+    (bits_turned 32 word (place % 32) r ∙ ap (λ x. set (bits 32 word) (place % 32) (not x)) old)
+    ∙ ap (λ i. set (flags words) i b) there
 
 pub flags_of_zeros : (n : ℕ) → flags (replicate n 0) ≡ replicate (n * 32) false
 unfolding flags

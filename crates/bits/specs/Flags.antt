@@ -28,6 +28,10 @@ abbrev pub how_many : List Bool → ℕ
 how_many [] = 0
 how_many (one ∷ rest) = cond one 1 0 + how_many rest
 
+-- whether a word has a bit that is not set
+abbrev pub is_not_full : ℕ → Bool
+is_not_full word = not (word == 0xFFFF_FFFF)
+
 -- a flag that is not set, while every flag before it is
 pub record FirstClear (row : List Bool) (place : ℕ) : Type 0 where
   pub inside : place < length row

@@ -1,16 +1,16 @@
 // A row of 1,024 flags, packed 32 to a word.
 #![tactic(auto)]
 
-ghost use Rattle.std.specs.Prelude.{◌≡◌, ◌^◌, ◌<◌, false, length, replicate, bit_xor};
-ghost use Rattle.bits.specs.Flags.{bit_of, flags, flag, turned, Sought};
+ghost use Rattle.std.specs.Prelude.{◌≡◌, false, length, replicate, position};
+ghost use Rattle.bits.specs.Flags.{flags, flag, is_not_full, turned, Sought};
 
 /// How many bits a word has.
-const WORD_BITS: usize = 32;
+const WORD_BITS: usize = u32::BITS as usize;
 
 /// How many words a row has.
 const ROW_WORDS: usize = 32;
 
-#[derive(Drop)]
+#[derive(Debug, PartialEq, Eq, Drop)]
 pub struct Flags {
     words: [u32; ROW_WORDS],
     ghost long: { length words ≡ 32 },
@@ -22,7 +22,7 @@ impl Flags {
         ensures { flags result.words ≡ replicate 1024 false }
     {
         Flags {
-            words: clear_words(),
+            words: [0; ROW_WORDS],
         }
     }
 
@@ -30,11 +30,10 @@ impl Flags {
     pub fn is_set(&self, place: usize) -> bool
         ensures { result ≡ flag (flags self.now.words) place }
     {
-        let at = place / WORD_BITS;
-        if at >= ROW_WORDS {
+        let Some(&word) = self.words.get(place / WORD_BITS) else {
             return false;
-        }
-        bit(self.words[at], place % WORD_BITS)
+        };
+        (word >> (place % WORD_BITS)) & 1 == 1
     }
 
     /// Turns the flag at a place; past the end there is none to turn.
@@ -42,10 +41,11 @@ impl Flags {
         ensures { flags self.new.words ≡ turned (flags self.old.words) place }
     {
         let at = place / WORD_BITS;
-        if at >= ROW_WORDS {
-            return;
+
+        // By index, and not by `get_mut`: a proof knows no element of a slice after a write through that.
+        if at < ROW_WORDS {
+            self.words[at] ^= 1 << (place % WORD_BITS);
         }
-        self.words[at] = turned_bit(self.words[at], place % WORD_BITS);
     }
 
     /// The lowest place whose flag is not set. Looks at whole words: a word's own first clear bit is its number of
@@ -53,13 +53,8 @@ impl Flags {
     pub fn first_clear(&self) -> Option<usize>
         ensures { Sought (flags self.now.words) result }
     {
-        for at in 0..ROW_WORDS {
-            let ones = self.words[at].trailing_ones() as usize;
-            if ones < WORD_BITS {
-                return Some(at * WORD_BITS + ones);
-            }
-        }
-        None
+        let at = first_with_a_clear_bit(&self.words)?;
+        Some(at * WORD_BITS + self.words[at].trailing_ones() as usize)
     }
 
     /// Clears every flag.
@@ -70,25 +65,9 @@ impl Flags {
     }
 }
 
-// The words of a row with no flag set.
-fn clear_words() -> [u32; ROW_WORDS]
-    ensures { result ≡ replicate 32 0 }
+// The number of the first word that has a clear bit.
+fn first_with_a_clear_bit(words: &[u32]) -> Option<usize>
+    ensures { result ≡ position is_not_full words.now }
 {
-    [0; ROW_WORDS]
-}
-
-// One bit of a word.
-fn bit(word: u32, at: usize) -> bool
-    requires { at < 32 }
-    ensures { result ≡ bit_of word at }
-{
-    (word >> at) % 2 == 1
-}
-
-// The word with one bit turned.
-fn turned_bit(word: u32, at: usize) -> u32
-    requires { at < 32 }
-    ensures { result ≡ bit_xor word (2 ^ at) }
-{
-    word ^ (1 << at)
+    words.iter().position(|word| *word != u32::MAX)
 }

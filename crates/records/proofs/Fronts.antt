@@ -1,5 +1,6 @@
 -- The front of a list, byte by byte.
 use Rattle.std.proofs.Common.{◌≡◌, ℕ, zero, suc, ◌+◌, ◌<◌, ◌≤◌, List, [], ◌∷◌, ◌++◌, length, drop, replicate, sym, refl, ap, ◌∙◌, add-zero, arith, lit<, drop-cons}
+use Rattle.std.proofs.lemmas.List.{get_or-drop}
 use Rattle.records.specs.Cutting.{byte}
 use Rattle.records.specs.Inverse.{Bytes}
 
@@ -33,9 +34,7 @@ bytes_append [] ys hx hy = hy
 bytes_append (x ∷ xs) ys hx hy = bytes_cons x (xs ++ ys) (hx 0) (bytes_append xs ys (λ i. hx (suc i)) hy)
 
 pub bytes_drop : (n : ℕ) (xs : List ℕ) → Bytes xs → Bytes (drop n xs)
-bytes_drop zero xs h = h
-bytes_drop (suc n) [] h = h
-bytes_drop (suc n) (x ∷ xs) h = bytes_drop n xs (λ i. h (suc i))
+bytes_drop n xs h i = rw get_or-drop (h (n + i))
 
 pub bytes_zeros : (n : ℕ) → Bytes (replicate n 0)
 bytes_zeros zero k = lit< tt

@@ -1,11 +1,11 @@
 -- A kind byte is that of ten kinds or of none, and each kind lays its fields out in one way.
-use Rattle.std.proofs.Common.{◌≡◌, ℕ, cond, eqb, ◌⊎◌, List, ◌∷◌, ◌++◌, Err, sym, refl, ap, ◌∙◌, subst, inl, inr, ⊎_elim, ne_eqb}
+use Rattle.std.proofs.Common.{◌≡◌, ℕ, cond, eqb, ◌⊎◌, List, ◌∷◌, Err, sym, refl, ◌∙◌, subst, inl, inr, ⊎_elim, ne_eqb}
 use Rattle.std.proofs.lemmas.Bool.{cases_eq, cond-false}
 use Rattle.records.specs.declared.faults.Cause.TheVariants.{UnknownKind}
 use Rattle.records.specs.declared.kinds.Step.TheVariants.{Const, Arith, Empty, Cons, Call, Return, Match, If}
 use Rattle.records.specs.declared.kinds.Record.{Record}
 use Rattle.records.specs.declared.kinds.Record.TheVariants.{ListType, Function, Step}
-use Rattle.records.specs.Writing.{written, size, in_two}
+use Rattle.records.specs.Writing.{written, size}
 use Rattle.records.specs.Cutting.{cut, whole, byte, two_at, four_at, bytes_at}
 use Rattle.records.specs.Inverse.{Bytes}
 use Rattle.records.proofs.Numerals.{two_split, four_split}
@@ -28,7 +28,7 @@ list_type = record {
   of = λ xs. ListType (record { element = byte xs 1; amount = two_at xs 2 });
   sized = λ xs. refl;
   cuts = λ body at. refl;
-  writes = λ body b. let xs = 0x11 ∷ body in ap (λ t. 0x11 ∷ (byte xs 1 ∷ t)) (two_split (byte xs 2) (byte xs 3) (b 3));
+  writes = λ body b. let xs = 0x11 ∷ body in let amount = two_split (byte xs 2) (byte xs 3) (b 3) in cc;
 }
 
 function : Layout 0x20
@@ -41,8 +41,7 @@ function = record {
       let xs = 0x20 ∷ body in
       let entry = two_split (byte xs 7) (byte xs 8) (b 8) in
       let remainder = two_split (byte xs 9) (byte xs 10) (b 10) in
-      ap (λ t. 0x20 ∷ (byte xs 1 ∷ (byte xs 2 ∷ (byte xs 3 ∷ (byte xs 4 ∷ (byte xs 5 ∷ (byte xs 6 ∷ (t ++ in_two (two_at xs 9))))))))) entry
-      ∙ ap (λ t. 0x20 ∷ (byte xs 1 ∷ (byte xs 2 ∷ (byte xs 3 ∷ (byte xs 4 ∷ (byte xs 5 ∷ (byte xs 6 ∷ (byte xs 7 ∷ (byte xs 8 ∷ t))))))))) remainder;
+      cc;
 }
 
 const : Layout 0x30
@@ -53,7 +52,8 @@ const = record {
   cuts = λ body at. refl;
   writes = λ body b.
       let xs = 0x30 ∷ body in
-      ap (λ t. 0x30 ∷ (byte xs 1 ∷ t)) (four_split (byte xs 2) (byte xs 3) (byte xs 4) (byte xs 5) (b 3) (b 4) (b 5));
+      let number = four_split (byte xs 2) (byte xs 3) (byte xs 4) (byte xs 5) (b 3) (b 4) (b 5) in
+      cc;
 }
 
 match_list : Layout 0x41
@@ -62,9 +62,7 @@ match_list = record {
   of = λ xs. Step (Match (byte xs 1) (byte xs 2) (byte xs 3) (two_at xs 4));
   sized = λ xs. refl;
   cuts = λ body at. refl;
-  writes = λ body b.
-      let xs = 0x41 ∷ body in
-      ap (λ t. 0x41 ∷ (byte xs 1 ∷ (byte xs 2 ∷ (byte xs 3 ∷ t)))) (two_split (byte xs 4) (byte xs 5) (b 5));
+  writes = λ body b. let xs = 0x41 ∷ body in let second = two_split (byte xs 4) (byte xs 5) (b 5) in cc;
 }
 
 branch_if : Layout 0x43
@@ -73,7 +71,7 @@ branch_if = record {
   of = λ xs. Step (If (byte xs 1) (two_at xs 2));
   sized = λ xs. refl;
   cuts = λ body at. refl;
-  writes = λ body b. let xs = 0x43 ∷ body in ap (λ t. 0x43 ∷ (byte xs 1 ∷ t)) (two_split (byte xs 2) (byte xs 3) (b 3));
+  writes = λ body b. let xs = 0x43 ∷ body in let second = two_split (byte xs 2) (byte xs 3) (b 3) in cc;
 }
 
 -- the kinds whose fields are single bytes
@@ -101,7 +99,8 @@ return = plain 0x40 2 (λ xs. Step (Return (byte xs 1))) (λ xs. refl) (λ body 
 or_else : {kind : ℕ} (k : ℕ) → Layout k → ((kind ≡ k → ⊥) → Layout kind ⊎ Unknown kind) → Layout kind ⊎ Unknown kind
 or_else {kind} k layout other = ⊎_elim (λ e. inl (subst Layout (sym e) layout)) other (cases_eq kind k)
 
-skip : {X : Type 0} (kind k : ℕ) (x y : X) → (kind ≡ k → ⊥) → cond (eqb kind k) x y ≡ y
+-- a test that a kind byte does not pass
+pub skip : {X : Type 0} (kind k : ℕ) (x y : X) → (kind ≡ k → ⊥) → cond (eqb kind k) x y ≡ y
 skip kind k x y ne = cond-false (eqb kind k) x y (ne_eqb kind k ne)
 
 pub known : (kind : ℕ) → Layout kind ⊎ Unknown kind

@@ -1,9 +1,9 @@
 pub mod Positive
 pub mod Rows
-mod Tallies
 mod Numerals
 mod Fronts
 mod Known
+mod NoKind
 mod ReadBack
 mod Splits
 mod OneWay

@@ -1,9 +1,10 @@
 -- A sheet is the writing of one row of records at most, and the first round finds it or the place where there is none.
-use Rattle.std.proofs.Common.{◌≡◌, ℕ, ◌+◌, ◌-◌, ◌<◌, ◌≤◌, ltb, List, [], ◌∷◌, ◌++◌, length, drop, replicate, Err, sym, refl, ap, ◌∙◌, subst, ⊎_elim, append-nil, zero-add, arith, length-append, ltb-false, ltb-true}
+use Rattle.std.proofs.Common.{◌≡◌, ℕ, ◌+◌, ◌-◌, ◌<◌, ◌≤◌, List, [], ◌∷◌, ◌++◌, length, drop, replicate, Err, sym, refl, ap, ◌∙◌, subst, ⊎_elim, append-nil, zero-add, arith, length-append}
 use lib.ListN.{length-replicate}
 use lib.Seq.{drop-length, drop-append_seam}
-use Rattle.std.proofs.lemmas.Bool.{cond-true, cond-false, cases_Bool}
-use Rattle.records.specs.declared.faults.Cause.TheVariants.{UnknownKind, CutShort}
+use Rattle.std.proofs.lemmas.Bool.{cases_lt}
+use Rattle.std.proofs.lemmas.Bool.Decides.{nat_tests}
+use Rattle.records.specs.declared.faults.Cause.TheVariants.{TooLong, UnknownKind, CutShort}
 use Rattle.records.specs.declared.faults.Fault.{Fault}
 use Rattle.records.specs.declared.kinds.Record.{Record}
 use Rattle.records.specs.Writing.{written, writing, size}
@@ -14,7 +15,7 @@ use Rattle.records.specs.Inverse.{Bytes}
 use Rattle.records.specs.Sheets.{AllWritable, tally, Whole, BeginsNone, no_such_kind, more_wanted, Refused, too_long, breaks_off, ReadInOneWay}
 use Rattle.records.proofs.Fronts.{bytes_append, bytes_drop, bytes_zeros}
 use Rattle.records.proofs.Known.{Layout, Unknown, known}
-use Rattle.records.proofs.ReadBack.{reads_back, laid_out, whole_or_short}
+use Rattle.records.proofs.ReadBack.{reads_back, laid_out, whole_fails}
 use Rattle.records.proofs.Rows.{row_broken}
 use Rattle.records.proofs.Splits.{along, row_of_writing, tallied_along, Split, split}
 
@@ -61,24 +62,17 @@ stranger : (kind : ℕ) (rest : List ℕ) → Unknown kind → BeginsNone kind r
 stranger kind rest unknown = no_such_kind (λ r body w e.
     let back = sym (ap (λ xs. cut (xs ++ []) 0) e) ∙ reads_back r w [] 0 in
     let u = sym (unknown (body ++ []) 0) ∙ back in
-    let z : ◌≡◌ {A = ℕ} 0 1 = cc in omega arith)
+    cc)
 
 -- why the cut fails
 fails : (kind : ℕ) (rest : List ℕ) (at : ℕ) (f : Fault) → Bytes (kind ∷ rest) → cut (kind ∷ rest) at ≡ Err f → (f.place ≡ at) × BeginsNone kind rest f.cause
 fails kind rest at f b e =
     ⊎_elim
     (λ layout.
-    let r = layout.of (kind ∷ rest) in
-    let c = sym e ∙ layout.cuts rest at in
-    let s : size r ≡ layout.long = layout.sized (kind ∷ rest) in
-    ⊎_elim
-    (λ w. let g = c ∙ w.1 in let z : ◌≡◌ {A = ℕ} 0 1 = cc in absurd (omega arith))
-    (λ l.
-    let g = c ∙ l.1 in
-    let less = l.0 in
-    let same : f ≡ record { cause = CutShort; place = at } = cc in
-    (ap (λ (x : Fault). x.place) same, subst (λ (x : Fault). BeginsNone kind rest x.cause) (sym same) (completes kind layout rest b (omega arith))))
-    (whole_or_short (kind ∷ rest) at r))
+    let s : size (layout.of (kind ∷ rest)) ≡ layout.long = layout.sized (kind ∷ rest) in
+    let short = whole_fails (kind ∷ rest) at (layout.of (kind ∷ rest)) f (sym (layout.cuts rest at) ∙ e) in
+    let less = short.0 in
+    (ap (λ (x : Fault). x.place) short.1, subst (λ (x : Fault). BeginsNone kind rest x.cause) (sym short.1) (completes kind layout rest b (omega arith))))
     (λ unknown.
     let g = sym e ∙ unknown rest at in
     let same : f ≡ record { cause = UnknownKind; place = at } = cc in
@@ -87,7 +81,7 @@ fails kind rest at f b e =
 
 refuses : (sheet : List ℕ) (rs : List Record) (rest : List ℕ) (f : Fault) → Bytes sheet → length sheet ≤ 4096 → AllWritable rs → writing rs ++ rest ≡ sheet →
     cut rest (0 + length (writing rs)) ≡ Err f → Refused sheet f
-refuses sheet rs [] f b fits ws is e = let z : ◌≡◌ {A = ℕ} 0 1 = cc in absurd (omega arith)
+refuses sheet rs [] f b fits ws is e = absurd (cc)
 refuses sheet rs (kind ∷ rest) f b fits ws is e =
     let behind : Bytes (kind ∷ rest) = subst Bytes (ap (drop (length (writing rs))) (sym is) ∙ drop-append_seam (writing rs) (kind ∷ rest)) (bytes_drop (length (writing rs)) sheet b) in
     let why = fails kind rest (0 + length (writing rs)) f behind e in
@@ -116,8 +110,8 @@ by_split sheet s b fits =
 pub read_in_one_way : (sheet : List ℕ) → Bytes sheet → ReadInOneWay sheet (first_round sheet)
 read_in_one_way sheet b =
     ⊎_elim
-    (λ long. subst (ReadInOneWay sheet) (sym (cond-true (ltb 4096 (length sheet)) _ _ long)) (too_long (ltb-true 4096 (length sheet) long)))
-    (λ short.
-    subst (ReadInOneWay sheet) (sym (cond-false (ltb 4096 (length sheet)) _ _ short))
-    (by_split sheet (split (length sheet) sheet 0 (omega arith) b) b (ltb-false 4096 (length sheet) short)))
-    (cases_Bool (ltb 4096 (length sheet)))
+    (λ long. let refused : first_round sheet ≡ Err (record { cause = TooLong; place = 0 }) = grind (arith, nat_tests) in subst (ReadInOneWay sheet) (sym refused) (too_long long))
+    (λ fits.
+    let cut_up : first_round sheet ≡ tallied (row sheet 0) no_records = grind (arith, nat_tests) in
+    subst (ReadInOneWay sheet) (sym cut_up) (by_split sheet (split (length sheet) sheet 0 (omega arith) b) b fits))
+    (cases_lt 4096 (length sheet))

@@ -21,7 +21,7 @@ row_passes (b ∷ bs) (suc skip) at fits = row_passes bs skip (at + 1) (omega ar
 
 -- the row of bytes that a record is cut from
 pub row_of_cut : (bytes : List ℕ) (at : ℕ) (r : Record) → cut bytes at ≡ Ok (Some r) → size r ≤ length bytes → row bytes at ≡ next at r (row (drop (size r) bytes) (at + size r))
-row_of_cut [] at r e fits = let z : ◌≡◌ {A = ℕ} 0 1 = cc in absurd (omega arith)
+row_of_cut [] at r e fits = absurd (cc)
 row_of_cut (b ∷ bs) at r e fits =
     let positive : 0 < size r = size_positive r in
     let whole : at + 1 + (size r - 1) ≡ at + size r = omega arith in

@@ -1,6 +1,7 @@
 -- The row of a sheet that begins with the writing of records, and how far any sheet does.
 use Rattle.std.proofs.Common.{◌≡◌, ℕ, zero, suc, ◌+◌, ◌≤◌, ◌⊎◌, List, [], ◌∷◌, ◌++◌, length, drop, Some, None, Ok, Err, sym, refl, ap, ◌∙◌, inl, inr, ⊎_elim, append_assoc, add-zero, arith, length-append, length-drop}
 use lib.Seq.{drop-append_seam}
+use Rattle.std.proofs.lemmas.Bool.Decides.{nat_tests}
 use Rattle.records.specs.declared.faults.Fault.{Fault}
 use Rattle.records.specs.declared.kinds.Record.{Record}
 use Rattle.records.specs.declared.rounds.Tally.{Tally}
@@ -13,7 +14,7 @@ use Rattle.records.specs.Sheets.{AllWritable, no_record, one_more, tally}
 use Rattle.records.proofs.Positive.{size_positive}
 use Rattle.records.proofs.Fronts.{bytes_drop}
 use Rattle.records.proofs.Known.{known}
-use Rattle.records.proofs.ReadBack.{reads_back, Begins, whole_or_short, cut_is_written}
+use Rattle.records.proofs.ReadBack.{reads_back, Begins, cut_is_written}
 use Rattle.records.proofs.Rows.{row_of_cut}
 
 -- these records from an offset on, and then the row at their end
@@ -70,13 +71,8 @@ split_more xs at r front tail =
 no_end : (kind : ℕ) (body : List ℕ) (at : ℕ) → cut (kind ∷ body) at ≡ Ok None → ⊥
 no_end kind body at e =
     ⊎_elim
-    (λ layout.
-    let c = sym e ∙ layout.cuts body at in
-    ⊎_elim
-    (λ w. let f = c ∙ w.1 in let z : ◌≡◌ {A = ℕ} 0 1 = cc in omega arith)
-    (λ s. let f = c ∙ s.1 in let z : ◌≡◌ {A = ℕ} 0 1 = cc in omega arith)
-    (whole_or_short (kind ∷ body) at (layout.of (kind ∷ body))))
-    (λ unknown. let u = sym e ∙ unknown body at in let z : ◌≡◌ {A = ℕ} 0 1 = cc in omega arith)
+    (λ layout. let c = sym e ∙ layout.cuts body at in grind (arith, nat_tests, c))
+    (λ unknown. let u = sym e ∙ unknown body at in cc)
     (known kind)
 
 split_at : (xs : List ℕ) (at : ℕ) → Bytes xs → (c : Cutting) → cut xs at ≡ c → ((r : Record) → Begins xs r → Split (drop (size r) xs) (at + size r)) → Split xs at

@@ -1,6 +1,8 @@
 pub mod Numbers
+pub mod Operations
 pub mod Writing
 pub mod Cutting
+pub mod Kinds
 pub mod Inverse
 pub mod Rows
 pub mod FirstRound

@@ -2,59 +2,41 @@
 ghost use Rattle.records.specs.Numbers.{number_of};
 ghost use Rattle.std.specs.Prelude.{◌≡◌};
 
-#[derive(Clone, Copy)]
+// The numbers are those of the table of docs/ENGINE.md.
+#[derive(Clone, Copy, Debug, PartialEq, Eq)]
 pub enum Cause {
-    TooLong,
-    UnknownKind,
-    CutShort,
-    OutOfOrder,
-    NoFunction,
-    TooMany,
-    ElementNotLower,
-    BadSignature,
-    BadResult,
-    BodyEnd,
-    WrongSecond,
-    TooManyWaiting,
-    BadField,
-    EmptySlot,
-    WrongType,
-    BadBinding,
-    ListLeft,
-    BalanceTooSmall,
+    TooLong = 10,
+    UnknownKind = 11,
+    CutShort = 12,
+    OutOfOrder = 20,
+    NoFunction = 21,
+    TooMany = 22,
+    ElementNotLower = 23,
+    BadSignature = 24,
+    BadResult = 25,
+    BodyEnd = 30,
+    WrongSecond = 31,
+    TooManyWaiting = 32,
+    BadField = 33,
+    EmptySlot = 34,
+    WrongType = 35,
+    BadBinding = 36,
+    ListLeft = 37,
+    BalanceTooSmall = 40,
 }
 
 // The place is an offset in the sheet.
-#[derive(Clone, Copy)]
+#[derive(Clone, Copy, Debug, PartialEq, Eq)]
 pub struct Fault {
     pub cause: Cause,
     pub place: usize,
 }
 
 impl Cause {
-    // The refusal's number in the table of docs/ENGINE.md.
+    // The number under which the refusal is reported.
     pub fn number(&self) -> u8
         ensures { result ≡ number_of self.now }
     {
-        match self {
-            Cause::TooLong => 10,
-            Cause::UnknownKind => 11,
-            Cause::CutShort => 12,
-            Cause::OutOfOrder => 20,
-            Cause::NoFunction => 21,
-            Cause::TooMany => 22,
-            Cause::ElementNotLower => 23,
-            Cause::BadSignature => 24,
-            Cause::BadResult => 25,
-            Cause::BodyEnd => 30,
-            Cause::WrongSecond => 31,
-            Cause::TooManyWaiting => 32,
-            Cause::BadField => 33,
-            Cause::EmptySlot => 34,
-            Cause::WrongType => 35,
-            Cause::BadBinding => 36,
-            Cause::ListLeft => 37,
-            Cause::BalanceTooSmall => 40,
-        }
+        *self as u8
     }
 }

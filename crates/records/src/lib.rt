@@ -4,11 +4,14 @@
 
 mod faults;
 mod kinds;
+mod layouts;
+mod operations;
 mod reading;
 mod rounds;
 mod sizes;
 
 pub use faults::{Cause, Fault};
-pub use kinds::{NodeType, Record, Signature, Step};
+pub use kinds::{NodeType, Record, Signature, Step, UNUSED};
+pub use operations::{Operation, UnknownOperation};
 pub use reading::Reader;
 pub use rounds::{SHEET_LIMIT, Tally, first_round};

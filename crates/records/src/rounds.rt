@@ -1,6 +1,6 @@
 // The first round of the check: the sheet is short enough, and its bytes are a row of whole records of known kinds.
 ghost use Rattle.std.specs.Prelude.{◌≡◌, ◌+◌, ◌<◌};
-ghost use Rattle.records.specs.FirstRound.{first_round, counted, no_records, records_in};
+ghost use Rattle.records.specs.FirstRound.{first_round, counted, records_in};
 ghost use Rattle.records.specs.Sheets.{ReadInOneWay};
 
 use crate::faults::{Cause, Fault};
@@ -11,7 +11,7 @@ use crate::reading::Reader;
 pub const SHEET_LIMIT: usize = 4096;
 
 // How many records of each sort a sheet has.
-#[derive(Clone, Copy)]
+#[derive(Clone, Copy, Debug, Default, PartialEq, Eq)]
 pub struct Tally {
     pub types: usize,
     pub functions: usize,
@@ -19,18 +19,8 @@ pub struct Tally {
 }
 
 impl Tally {
-    fn none() -> Self
-        ensures { result ≡ no_records }
-    {
-        Tally {
-            types: 0,
-            functions: 0,
-            steps: 0,
-        }
-    }
-
     fn count(&mut self, next: &Record)
-        requires { records_in self.old < 4096 }
+        requires { records_in self.old < SHEET_LIMIT }
         ensures { self.new ≡ counted self.old next.now }
     {
         match next {
@@ -49,6 +39,7 @@ pub fn first_round(bytes: &[u8]) -> Result<Tally, Fault>
     cut_all(bytes)
 }
 
+// The verdict alone; `first_round` adds what it means for the bytes, once for all its exits.
 fn cut_all(bytes: &[u8]) -> Result<Tally, Fault>
     ensures { result ≡ first_round bytes.now }
 {
@@ -59,7 +50,8 @@ fn cut_all(bytes: &[u8]) -> Result<Tally, Fault>
         });
     }
     let mut reader = Reader::new(bytes);
-    let mut tally = Tally::none();
+    let mut tally = Tally::default();
+    // no index is counted: the reader knows its place, and ? leaves at a fault
     while let Some(next) = reader.next()? {
         tally.count(&next);
     }

@@ -4,9 +4,6 @@ use Rattle.records.specs.Sheets.{ReadInOneWay}
 use Rattle.records.proofs.OneWay.{read_in_one_way}
 use Rattle.records.proofs.rounds.first_round.Goals as goal
 
-pub returns : goal.returns
-returns c =
-    record {
-      verdict = c.cut_all.ensures;
-      sheet = subst (ReadInOneWay c.args.bytes.now) (sym c.cut_all.ensures) (read_in_one_way c.args.bytes.now (λ i. Fits-lt-pow (c.type_inv.bytes i)));
-    }
+pub returns-clause-sheet : goal.returns-clause-sheet
+returns-clause-sheet c =
+    subst (ReadInOneWay c.args.bytes.now) (sym c.cut_all.ensures) (read_in_one_way c.args.bytes.now (λ i. Fits-lt-pow (c.type_inv.bytes i)))
