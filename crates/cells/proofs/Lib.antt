@@ -1,1 +1,2 @@
 pub mod Reasoning
+mod Turns

@@ -1,13 +1,10 @@
 -- What an update of the map reads back, and how it changes the count. Assumes nothing.
 use Rattle.std.specs.Prelude.{◌≡◌, ℕ, zero, suc, ◌+◌, ◌<◌, ◌≤◌, true, false, is_some, Some, None, Option, ◌==◌, ◌≢◌, refl}
+use Rattle.std.proofs.Math.Path.{fun_ext}
 use Rattle.std.proofs.Common.{sym, ap, ◌∙◌, ⊎_elim, arith}
 use Rattle.std.proofs.lemmas.Bool.{eq-eqb, ne_eqb, cases_eq, cond-true, cond-false}
 use Rattle.cells.specs.declared.words.Words.{Words}
 use Rattle.cells.specs.Cells.{Map, last_number, Held, Unheld, empty, update, one_if, count_below, count}
-
--- two maps that agree at every number are one map
-pub same_map : {m n : Map} → ((number : ℕ) → m number ≡ n number) → m ≡ n
-same_map h = λ i number. h number i
 
 -- ---- reading back
 
@@ -21,7 +18,7 @@ update_elsewhere m k entry j h = cond-false (j == k) entry (m j) (ne_eqb j k h)
 
 -- writing back what stood at a number restores the map, whatever was written between
 pub update_back : (m : Map) (k : ℕ) (entry back : Option Words) → m k ≡ back → update (update m k entry) k back ≡ m
-update_back m k entry back h = same_map (λ j. ⊎_elim
+update_back m k entry back h = fun_ext (λ j. ⊎_elim
     (λ (e : j ≡ k). ap (update (update m k entry) k back) e ∙ (update_here (update m k entry) k back ∙ (sym h ∙ ap m (sym e))))
     (λ (ne : j ≡ k → ⊥). update_elsewhere (update m k entry) k back j ne ∙ update_elsewhere m k entry j ne)
     (cases_eq j k))

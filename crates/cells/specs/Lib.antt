@@ -2,9 +2,10 @@ pub mod Cells
 pub mod Outcomes
 pub mod Calls
 pub mod Laws
+pub mod Rows
 pub mod Pool
-pub mod Quota
-pub mod Prepend
 pub mod Counts
 pub mod Places
 pub mod Bounds
+pub mod Quota
+pub mod Prepend

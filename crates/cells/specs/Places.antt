@@ -1,7 +1,7 @@
 -- How the marks and rows of a pool stand for its cells: which numbers they hold, how many, and what turning one mark does.
 -- Rests on the counts, and on the laws of a row of flags.
 use Rattle.std.specs.Prelude.{◌≡◌, ℕ, zero, suc, ◌+◌, ◌-◌, ◌<◌, ◌≤◌, Bool, true, false, cond, List, length, take, replicate, is_some, Some, None, slice_index_or, slice_set}
-use Rattle.std.proofs.Math.Path.{refl, ap}
+use Rattle.std.proofs.Math.Path.{refl, ap, fun_ext}
 use Rattle.std.proofs.Common.{sym, ◌∙◌, ⊎_elim, arith, add-one}
 use Rattle.std.proofs.lemmas.Bool.{cases_eq, cases_lt}
 use Rattle.std.proofs.lemmas.List.{get_or-set_same, get_or-set_other, get_or_past, length-set, take_all}
@@ -11,8 +11,9 @@ use Rattle.bits.proofs.Rows.{flags_length, many_at_most, many_in_all, many_one_m
 use Rattle.cells.specs.declared.words.Words.{Words}
 use Rattle.cells.specs.declared.pool.Pool.{Pool}
 use Rattle.cells.specs.Cells.{last_number, Held, Unheld, Numbered, empty, put, without, one_if, count_below, count}
-use Rattle.cells.specs.Pool.{at_place, numbered_from_one, marks_of, no_words, pool_cells, pool_capacity}
-use Rattle.cells.specs.Counts.{same_map, update_here, update_elsewhere}
+use Rattle.cells.specs.Rows.{pool_capacity, no_words, at_place, numbered_from_one}
+use Rattle.cells.specs.Pool.{marks_of, pool_cells}
+use Rattle.cells.specs.Counts.{update_here, update_elsewhere, count_empty}
 
 -- ---- one place
 
@@ -73,7 +74,7 @@ module _ (marks : List Bool) (rows : List Words) where
   -- a mark set and its row written put the cell
   pub set_puts : (place : ℕ) (words : Words) → place < length marks → place < length rows
       → numbered_from_one (slice_set marks place true) (slice_set rows place words) ≡ put (numbered_from_one marks rows) (place + 1) words
-  set_puts place words in_marks in_rows = same_map at
+  set_puts place words in_marks in_rows = fun_ext at
     where
       at : (number : ℕ) → numbered_from_one (slice_set marks place true) (slice_set rows place words) number ≡ put (numbered_from_one marks rows) (place + 1) words number
       at zero = sym (update_elsewhere (numbered_from_one marks rows) (place + 1) (Some words) 0 (λ e. omega arith))
@@ -89,7 +90,7 @@ module _ (marks : List Bool) (rows : List Words) where
   -- a mark cleared removes the cell
   pub clear_removes : (place : ℕ) → place < length marks
       → numbered_from_one (slice_set marks place false) rows ≡ without (numbered_from_one marks rows) (place + 1)
-  clear_removes place in_marks = same_map at
+  clear_removes place in_marks = fun_ext at
     where
       at : (number : ℕ) → numbered_from_one (slice_set marks place false) rows number ≡ without (numbered_from_one marks rows) (place + 1) number
       at zero = sym (update_elsewhere (numbered_from_one marks rows) (place + 1) None 0 (λ e. omega arith))
@@ -133,10 +134,16 @@ none_is_clear zero place = refl
 none_is_clear (suc n) zero = refl
 none_is_clear (suc n) (suc place) = none_is_clear n place
 
--- no mark set holds no cell
-pub none_empty : (n : ℕ) (rows : List Words) → numbered_from_one (replicate n false) rows ≡ empty
-none_empty n rows = same_map at
+none_empty : (n : ℕ) (rows : List Words) → numbered_from_one (replicate n false) rows ≡ empty
+none_empty n rows = fun_ext at
   where
     at : (number : ℕ) → numbered_from_one (replicate n false) rows number ≡ None
     at zero = refl
     at (suc place) = at_clear (replicate n false) rows place (none_is_clear n place)
+
+-- where no mark is set, no cell is held
+pub unmarked_empty : (marks : List Bool) (rows : List Words) → marks ≡ replicate 1024 false → numbered_from_one marks rows ≡ empty
+unmarked_empty marks rows e = ap (λ x. numbered_from_one x rows) e ∙ none_empty 1024 rows
+
+pub unmarked_count : (marks : List Bool) (rows : List Words) → marks ≡ replicate 1024 false → count (numbered_from_one marks rows) ≡ 0
+unmarked_count marks rows e = ap count (unmarked_empty marks rows e) ∙ count_empty

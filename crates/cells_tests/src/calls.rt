@@ -1,78 +1,96 @@
 // Rows of calls on any store, each held to the answer that it should get.
 use cells::fault::StoreFault;
-use cells::store::{CellStore, Meaning};
+use cells::prepend::{PrependFault, prepend};
+use cells::quota::Quota;
+use cells::store::CellStore;
 use cells::words::Words;
 use std::process::Abort;
-use std::test::Fail;
 
-/// Words that tell one number from another.
-pub fn words_for(number: u32) -> Words {
-    Words {
-        element: number,
-        tail: number ^ 0xffff,
-        third: 0,
+/// What tests put into cells: words that tell one number from another.
+#[derive(Clone, Copy)]
+pub struct Filling {
+    /// The bits of the number that are turned in the first word, and in the second.
+    pub turned: [u32; 2],
+    pub third: u32,
+}
+
+/// The number itself first.
+pub const NUMBERS: Filling = Filling {
+    turned: [0, 0xffff],
+    third: 0,
+};
+
+impl Filling {
+    /// The words of the cell with this number.
+    pub fn words(self, number: u32) -> Words {
+        let [first, second] = self.turned;
+        Words {
+            element: number ^ first,
+            tail: number ^ second,
+            third: self.third,
+        }
     }
+}
+
+/// Takes one cell, which should get this number.
+pub fn take_one<S: CellStore>(rt: &impl Abort, store: &mut S, filling: Filling, number: u32) {
+    assert_eq!(rt; store.take(filling.words(number)), Ok(number));
 }
 
 /// Takes cells, which should get these numbers in this order.
-pub fn take_each<S: CellStore>(rt: &impl Abort, store: &mut S, numbers: &[u32]) -> Result<(), Fail>
-    requires { S.Meaning.ok store.old }
-    ensures { S.Meaning.ok store.new }
-{
+pub fn take_each<S: CellStore>(rt: &impl Abort, store: &mut S, filling: Filling, numbers: &[u32]) {
     for number in numbers {
-        assert_eq!(rt; store.take(words_for(*number)), Ok(*number));
+        take_one(rt, store, filling, *number);
     }
-    Ok(())
 }
 
 /// Takes cells, which should get the numbers from 1 to the last one.
-pub fn take_up_to<S: CellStore>(rt: &impl Abort, store: &mut S, last: u16) -> Result<(), Fail>
-    requires { S.Meaning.ok store.old }
-    ensures { S.Meaning.ok store.new }
-{
-    for place in 0..last {
-        let number = u32::from(place) + 1;
-        assert_eq!(rt; store.take(words_for(number)), Ok(number));
+pub fn take_up_to<S: CellStore>(rt: &impl Abort, store: &mut S, filling: Filling, last: u32) {
+    for number in 1..=last {
+        take_one(rt, store, filling, number);
     }
-    Ok(())
+}
+
+/// Takes one cell, which should be refused with this code.
+pub fn take_none<S: CellStore>(rt: &impl Abort, store: &mut S, filling: Filling, code: u8) {
+    assert_eq!(rt; store.take(filling.words(0)), Err(StoreFault { code }));
+}
+
+/// Gives one cell, which should be held with its own words.
+pub fn give_one<S: CellStore>(rt: &impl Abort, store: &mut S, filling: Filling, number: u32) {
+    assert_eq!(rt; store.read(number), Some(filling.words(number)));
+    assert_eq!(rt; store.give(number), Some(()));
+    assert_eq!(rt; store.read(number), None);
 }
 
 /// Gives cells, each of which should be held with its own words.
-pub fn give_each<S: CellStore>(rt: &impl Abort, store: &mut S, numbers: &[u32]) -> Result<(), Fail>
-    requires { S.Meaning.ok store.old }
-    ensures { S.Meaning.ok store.new }
-{
+pub fn give_each<S: CellStore>(rt: &impl Abort, store: &mut S, filling: Filling, numbers: &[u32]) {
     for number in numbers {
-        assert_eq!(rt; store.read(*number), Some(words_for(*number)));
-        assert_eq!(rt; store.give(*number), Some(()));
-        assert_eq!(rt; store.read(*number), None);
+        give_one(rt, store, filling, *number);
     }
-    Ok(())
 }
 
 /// Reads and gives numbers of which none should be held.
-pub fn give_none<S: CellStore>(rt: &impl Abort, store: &mut S, numbers: &[u32]) -> Result<(), Fail>
-    requires { S.Meaning.ok store.old }
-    ensures { S.Meaning.ok store.new }
-{
+pub fn give_none<S: CellStore>(rt: &impl Abort, store: &mut S, numbers: &[u32]) {
     for number in numbers {
         assert_eq!(rt; store.read(*number), None);
         assert_eq!(rt; store.give(*number), None);
     }
-    Ok(())
 }
 
-/// Takes one cell, which should be refused with this code.
-pub fn take_none<S: CellStore>(rt: &impl Abort, store: &mut S, code: u8)
-    requires { S.Meaning.ok store.old }
-    ensures { S.Meaning.ok store.new }
-{
-    assert_eq!(rt; store.take(words_for(0)), Err(StoreFault { code }));
+/// Puts elements before lists over a quota that has room for two cells. Each should get its answer, and the last the fault of the
+/// layer with this code.
+pub fn prepend_twice<S: CellStore>(rt: &impl Abort, quota: &mut Quota<S>, code: u8) {
+    assert_eq!(rt; prepend(quota, 7, 0), Ok(1));
+    assert_eq!(rt; prepend(quota, 5, 2), Err(PrependFault::NoList(2)));
+    assert_eq!(rt; prepend(quota, 5, 1), Ok(2));
+    assert_eq!(rt;
+        prepend(quota, 3, 2),
+        Err(PrependFault::Store(StoreFault { code }))
+    );
 }
 
 /// The two counts.
-pub fn counts<S: CellStore>(rt: &impl Abort, store: &S, free: u32, held: u32)
-    requires { S.Meaning.ok store.now }
-{
+pub fn counts<S: CellStore>(rt: &impl Abort, store: &S, free: u32, held: u32) {
     assert_eq!(rt; (store.free(), store.held()), (free, held));
 }

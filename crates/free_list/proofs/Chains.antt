@@ -9,12 +9,6 @@ use Rattle.free_list.specs.Lent.{no_cell, cell_at, lent_capacity, lent_cells}
 use Rattle.free_list.specs.Chain.{Among, Absent, first_word, Leads, Chain, InOrder, freed_cell}
 use Rattle.free_list.specs.Calls.{marked_cell}
 
--- what is equal is in order too
-pub same_order : (lent lent_after : List LentCell) (first first_after taken taken_after : ℕ) → lent_after ≡ lent → first_after ≡ first → taken_after ≡ taken → InOrder lent first taken → InOrder lent_after first_after taken_after
-same_order lent lent_after first first_after taken taken_after e f g order =
-    subst (λ (x : List LentCell). InOrder x first_after taken_after) (sym e)
-    (subst (λ (n : ℕ). InOrder lent n taken_after) (sym f) (subst (λ (n : ℕ). InOrder lent first n) (sym g) order))
-
 -- ---- one cell written
 
 pub capacity_written : (lent : List LentCell) (place : ℕ) (cell : LentCell) → lent_capacity (set lent place cell) ≡ lent_capacity lent

@@ -1,2 +1,3 @@
 mod Chains
+mod Heads
 mod Rising

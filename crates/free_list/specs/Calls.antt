@@ -7,7 +7,7 @@ use Rattle.cells.specs.Cells.{Map}
 use Rattle.free_list.specs.declared.lent.LentCell.{LentCell}
 use Rattle.free_list.specs.declared.list.FreeList.{FreeList}
 use Rattle.free_list.specs.Lent.{cell_at, lent_capacity, lent_cells}
-use Rattle.free_list.specs.Chain.{first_word, freed_cell, InOrder, Rising}
+use Rattle.free_list.specs.Chain.{first_word, freed_cell, Rising}
 
 -- the layer code of a free list
 abbrev pub list_code : ℕ
@@ -24,10 +24,6 @@ list_cells list = lent_cells (lent_to list)
 -- how many can be held
 abbrev pub list_capacity : FreeList → ℕ
 list_capacity list = lent_capacity (lent_to list)
-
--- what every call keeps
-abbrev pub ListOk : FreeList → Type 0
-ListOk list = InOrder (lent_to list) list.head list.taken
 
 -- making and clear: all cells are chained in rising order
 abbrev pub Chained : List LentCell → FreeList → Type 0

@@ -1,10 +1,11 @@
 -- How lent cells stand for the held cells: what each number reads, and what writing one cell does to the map. Rests on the
 -- counts of the interface.
+use Rattle.std.proofs.Math.Path.{fun_ext}
 use Rattle.std.proofs.Common.{◌≡◌, ℕ, zero, suc, ◌+◌, ◌<◌, ◌≤◌, true, false, ltb, List, set, is_some, Some, None, sym, refl, ap, ◌∙◌, ⊎_elim, add-one, arith}
 use Rattle.std.proofs.lemmas.Bool.{cases_eq, cases_lt, cond-true, cond-false, lt-ltb, le-ltb}
 use Rattle.std.proofs.lemmas.List.{get_or-set_same, get_or-set_other, get_or_past}
 use Rattle.cells.specs.Cells.{last_number, Held, Unheld, Numbered, empty, update}
-use Rattle.cells.specs.Counts.{same_map, update_here, update_elsewhere}
+use Rattle.cells.specs.Counts.{update_here, update_elsewhere}
 use Rattle.free_list.specs.declared.lent.LentCell.{LentCell}
 use Rattle.free_list.specs.Lent.{no_cell, cell_at, lent_capacity, shown, lent_cells}
 
@@ -47,7 +48,7 @@ module _ (lent : List LentCell) where
 
   -- where every cell is free, none is held
   pub all_free_empty : ((place : ℕ) → place < lent_capacity lent → (cell_at lent place).held ≡ false) → lent_cells lent ≡ empty
-  all_free_empty free = same_map at
+  all_free_empty free = fun_ext at
     where
       at : (number : ℕ) → lent_cells lent number ≡ None
       at zero = refl
@@ -59,7 +60,7 @@ module _ (lent : List LentCell) where
   -- a cell written at one place alters the map at one number
   pub written : (place : ℕ) (cell : LentCell) → place < lent_capacity lent
       → lent_cells (set lent place cell) ≡ update (lent_cells lent) (place + 1) (shown cell)
-  written place cell inside = same_map at
+  written place cell inside = fun_ext at
     where
       at : (number : ℕ) → lent_cells (set lent place cell) number ≡ update (lent_cells lent) (place + 1) (shown cell) number
       at zero = sym (update_elsewhere (lent_cells lent) (place + 1) (shown cell) 0 (λ e. omega arith))

@@ -1,5 +1,0 @@
-use Rattle.free_list_tests.proofs.calls.take_all.Given as goal
-
--- the store stays in order
-abbrev pub invariant-loop-step : goal.invariant-loop-step
-invariant-loop-step g l = g.S.Meaning.ok l.store
