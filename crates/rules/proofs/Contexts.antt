@@ -11,7 +11,7 @@ use Rattle.rules.specs.Types.{Ty, type_of, ElementsLower}
 use Rattle.rules.specs.Contexts.{Context, in_slot, left_of, used, bound, Uses, NoList, is_vacant, is_number, Binds, Passes, pass_none, pass_one, NoLists, no_slots, one_more, filled_from, starting}
 use Rattle.rules.specs.Rules.{parameters}
 use Rattle.rules.specs.Accounts.{slot_type, slot_of, is_filled, is_list, has_covering, slot_covers, left_in, slot_at, with_slot, after_use, may_bind, any_list, all_filled, all_cover, after_uses, slots_from, opening}
-use Rattle.rules.proofs.Truth.{impossible, split, join}
+use Rattle.rules.proofs.Truth.{split, join}
 use Rattle.rules.proofs.Numbered.{slot_of_type, covers_true, true_covers}
 
 abbrev pub context_of : List NodeType → Account → Context
@@ -42,11 +42,11 @@ module _ (ts : List NodeType) where
   uses c i t e = go (slot_type ts (slot_at c i)) refl e
     where
       go : (x : Option Ty) → slot_type ts (slot_at c i) ≡ x → has_covering x t ≡ true → Uses (context_of ts c) i t
-      go None q k = impossible (cc)
+      go None q k = cc
       go (Some s) q k = record { of = s; has = slot_at_type c i ∙ q; covering = covers_true s t k }
 
   filled_type : (s : Slot) (t : Ty) → slot_type ts s ≡ Some t → is_filled s ≡ true
-  filled_type Vacant t e = impossible (cc)
+  filled_type Vacant t e = cc
   filled_type Number t e = refl
   filled_type (ListOf u) t e = refl
 
@@ -67,7 +67,7 @@ module _ (ts : List NodeType) where
   no_list_type : (s : Slot) → not (is_list s) ≡ true → NoList (slot_type ts s)
   no_list_type Vacant e = is_vacant
   no_list_type Number e = is_number
-  no_list_type (ListOf t) e = impossible (cc)
+  no_list_type (ListOf t) e = cc
 
   type_no_list : (s : Slot) → NoList (slot_type ts s) → not (is_list s) ≡ true
   type_no_list Vacant n = refl
@@ -85,7 +85,7 @@ module _ (ts : List NodeType) where
   no_lists [] e = no_slots
   no_lists (Vacant ∷ ss) e = one_more is_vacant (no_lists ss e)
   no_lists (Number ∷ ss) e = one_more is_number (no_lists ss e)
-  no_lists (ListOf t ∷ ss) e = impossible (cc)
+  no_lists (ListOf t ∷ ss) e = cc
 
   pub none_left : (ss : List Slot) → NoLists (map (slot_type ts) ss) → not (any_list ss) ≡ true
   none_left [] n = refl
@@ -96,8 +96,8 @@ module _ (ts : List NodeType) where
   -- the slots of a Call
   pub passes : (c : Account) (is ps : List ℕ) → all_cover ts c is ps ≡ true → Passes (context_of ts c) is (map (type_of ts) ps) (context_of ts (after_uses c is))
   passes c [] [] e = pass_none
-  passes c [] (p ∷ ps) e = impossible (cc)
-  passes c (i ∷ is) [] e = impossible (cc)
+  passes c [] (p ∷ ps) e = cc
+  passes c (i ∷ is) [] e = cc
   passes c (i ∷ is) (p ∷ ps) e =
       let k = split (slot_covers ts (slot_at c i) p) (all_cover ts (after_use c i) is ps) e in
       pass_one (uses c i (type_of ts p) k.0)

@@ -15,7 +15,6 @@ use Rattle.records.proofs.Positive.{size_positive}
 use Rattle.records.proofs.Rows.{row_of_cut, row_ends, row_breaks}
 use Rattle.rules.specs.Limits.{byte_limit}
 use Rattle.rules.specs.Programs.{record_in, fetch}
-use Rattle.rules.proofs.Truth.{impossible}
 use Rattle.rules.proofs.Chains.{Chain, chain_end, chain_next}
 
 -- a cut that moves no further than the bytes reach, and is not the end of them
@@ -49,14 +48,14 @@ kind_within kind xs place =
 
 record_fits : (n : ℕ) (v : Cutting) (r : Record) → Within n v → v ≡ Ok (Some r) → size r ≤ n
 record_fits n v r (within_record {r = r₂} h) e = let same : r₂ ≡ r = cc in subst (λ x. size x ≤ n) same h
-record_fits n v r within_fault e = impossible (cc)
+record_fits n v r within_fault e = cc
 
 never_ends : (n : ℕ) (v : Cutting) → Within n v → v ≡ Ok None → ⊥
-never_ends n v (within_record h) e = impossible (cc)
-never_ends n v within_fault e = impossible (cc)
+never_ends n v (within_record h) e = cc
+never_ends n v within_fault e = cc
 
 cut_fits : (xs : List ℕ) (place : ℕ) (r : Record) → cut xs place ≡ Ok (Some r) → size r ≤ length xs
-cut_fits [] place r e = impossible (cc)
+cut_fits [] place r e = cc
 cut_fits (kind ∷ body) place r e = record_fits (length (kind ∷ body)) _ r (kind_within kind (kind ∷ body) place) e
 
 cut_ends : (xs : List ℕ) (place : ℕ) → cut xs place ≡ Ok None → length xs ≡ 0
@@ -65,8 +64,8 @@ cut_ends (kind ∷ body) place e = absurd (never_ends (length (kind ∷ body)) _
 
 pub fetched_cut : (v : Cutting) (r : Record) → record_in v ≡ Some r → v ≡ Ok (Some r)
 fetched_cut (Ok (Some r₂)) r e = let same : r₂ ≡ r = cc in ap (λ (x : Record). Ok (Some x)) same
-fetched_cut (Ok None) r e = impossible (cc)
-fetched_cut (Err f) r e = impossible (cc)
+fetched_cut (Ok None) r e = cc
+fetched_cut (Err f) r e = cc
 
 -- what is cut does not depend on the place that a fault would have
 data Alike : Cutting → Cutting → Type 0 where
@@ -150,7 +149,7 @@ module _ (bytes : List ℕ) where
       whole_end (omega arith)
   tallied_cut o inside (Ok (Some r)) c t u e behind =
       whole_next r (ap record_in c) (behind r (ap record_in c) (sym (ap (λ x. tallied x t) (row_at o r c)) ∙ e))
-  tallied_cut o inside (Err f) c t u e behind = let q = ap (λ x. tallied x t) (row_breaks bytes bytes o refl f (sym c)) in impossible (cc)
+  tallied_cut o inside (Err f) c t u e behind = let q = ap (λ x. tallied x t) (row_breaks bytes bytes o refl f (sym c)) in cc
 
   tallied_whole : (fuel o : ℕ) → o ≤ length bytes → length bytes ≤ o + fuel → (t u : Tally) → tallied (row (drop o bytes) o) t ≡ Ok u → Whole o
   tallied_whole zero o inside enough t u e = whole_end (omega arith)
@@ -164,7 +163,7 @@ module _ (bytes : List ℕ) where
     where
       go : (b : Bool) → ltb byte_limit (length bytes) ≡ b → cond b (Err (record { cause = TooLong; place = 0 })) (tallied (row bytes 0) no_records) ≡ Ok u →
           Whole 0 × (length bytes ≤ byte_limit)
-      go true e k = impossible (cc)
+      go true e k = cc
       go false e k = (tallied_whole (length bytes) 0 (omega arith) (omega arith) no_records u k, ltb-false byte_limit (length bytes) e)
 
   pub first_passes : Whole 0 → length bytes ≤ byte_limit → (u : Tally) × (first_round bytes ≡ Ok u)

@@ -10,7 +10,7 @@ use Rattle.rules.specs.Programs.{Tables}
 use Rattle.rules.specs.Lawful.{Lawful}
 use Rattle.rules.specs.Tests.{both}
 use Rattle.rules.specs.Verdict.{verdict}
-use Rattle.rules.proofs.Truth.{impossible, split, join}
+use Rattle.rules.proofs.Truth.{split, join}
 use Rattle.rules.proofs.Holds.{check_accepts_what_the_rules_derive}
 
 -- a test that decides equality
@@ -31,8 +31,8 @@ module _ (A : Type 0) (same : A → A → Bool) (decides : Decides A same) where
   lists_true : (xs ys : List A) → same_lists xs ys ≡ true → xs ≡ ys
   unfolding same_lists
   lists_true [] [] e = refl
-  lists_true [] (b ∷ ys) e = impossible (cc)
-  lists_true (a ∷ xs) [] e = impossible (cc)
+  lists_true [] (b ∷ ys) e = cc
+  lists_true (a ∷ xs) [] e = cc
   lists_true (a ∷ xs) (b ∷ ys) e =
       let k = split (same a b) (same_lists xs ys) e in
       ap (λ x. x ∷ xs) (decides.true_same a b k.0) ∙ ap (λ zs. b ∷ zs) (lists_true xs ys k.1)
@@ -102,11 +102,11 @@ accepts (Err f) t = false
 
 accepts_true : (v : Result Tables Fault) (t : Tables) → accepts v t ≡ true → v ≡ Ok t
 accepts_true (Ok u) t e = ap (λ (x : Tables). Ok x) (tables_true u t e)
-accepts_true (Err f) t e = impossible (cc)
+accepts_true (Err f) t e = cc
 
 true_accepts : (v : Result Tables Fault) (t : Tables) → v ≡ Ok t → accepts v t ≡ true
 true_accepts (Ok u) t e = let same : u ≡ t = cc in true_tables u t same
-true_accepts (Err f) t e = impossible (cc)
+true_accepts (Err f) t e = cc
 
 pub lawful_again : (bytes : List ℕ) (t : Tables) → ∥ Lawful bytes t ∥₁ → Lawful bytes t
 lawful_again bytes t hidden =

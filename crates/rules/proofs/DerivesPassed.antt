@@ -1,5 +1,6 @@
 -- What has the form and derives, the third round passes.
-use Rattle.std.proofs.Common.{◌≡◌, ℕ, suc, ◌+◌, ◌<◌, cond, List, [], ◌∷◌, length, Some, None, Ok, sym, refl, ap, ◌∙◌, subst, arith, eq-eqb}
+use Rattle.std.proofs.Common.{◌≡◌, ℕ, suc, ◌+◌, ◌<◌, cond, List, [], ◌∷◌, length, Some, None, Ok, Result, sym, refl, ap, ◌∙◌, subst, arith, eq-eqb}
+use Rattle.records.specs.declared.faults.Cause.{Cause}
 use Rattle.records.specs.declared.faults.Cause.TheVariants.{WrongSecond}
 use Rattle.records.specs.declared.kinds.Signature.{Signature}
 use Rattle.records.specs.declared.kinds.Step.{Step as Action}
@@ -17,7 +18,6 @@ use Rattle.rules.specs.Branches.{Straight, Ending, Forking, Fields, Branch, step
 use Rattle.rules.specs.Accounts.{opening}
 use Rattle.rules.specs.SecondRound.{fault}
 use Rattle.rules.specs.ThirdRound.{between, within, waits, Answer, branch_ended, passed, bodies_pass}
-use Rattle.rules.proofs.Truth.{impossible}
 use Rattle.rules.proofs.Contexts.{opening_context}
 use Rattle.rules.proofs.Ruled.{AccountDerives, DerivesAt, in_context, rule_breaks, rule_onward, rule_forks, rule_ends}
 use Rattle.rules.proofs.Found.{Found, found_broken, found, found_of}
@@ -30,9 +30,9 @@ module _ (bytes : List ℕ) (t : Tables) (lower : ElementsLower t.types) where
     step_at : {o : ℕ} {s : Action} {rest : Row} → Chain bytes rest (o + step_size s) → StepAt (next o (Step s) rest) o s
 
   at_step : {r : Row} {o : ℕ} (s : Action) → Chain bytes r o → fetch bytes o ≡ Some (Step s) → StepAt r o s
-  at_step s (chain_end z f) e = impossible (cc)
-  at_step s (chain_next {r = ListType x} f ch) e = impossible (cc)
-  at_step s (chain_next {r = Function g} f ch) e = impossible (cc)
+  at_step s (chain_end z f) e = cc
+  at_step s (chain_next {r = ListType x} f ch) e = cc
+  at_step s (chain_next {r = Function g} f ch) e = cc
   at_step s (chain_next {o} {r = Step s₂} {rest} f ch) e =
       let same : s₂ ≡ s = cc in subst (λ x. StepAt (next o (Step s₂) rest) o x) same (step_at ch)
 
@@ -43,7 +43,7 @@ module _ (bytes : List ℕ) (t : Tables) (lower : ElementsLower t.types) where
     same : answer ≡ branch_ended g ws e (λ stage. bodies_pass t behind stage)
 
   module _ (g : Signature) where
-    complete_onward : (rest : Row) (c : Account) (ws : List Waiting) {v : Finding} {o e : ℕ} {s : Action} → Straight s → Fields (program bytes t) s →
+    complete_onward : (rest : Row) (c : Account) (ws : List Waiting) {v : Result Finding Cause} {o e : ℕ} {s : Action} → Straight s → Fields (program bytes t) s →
         Found bytes t g lower (length ws) c o s v → AccountDerives bytes t g c o (Some (Step s)) →
         ((d : Account) → DerivesAt bytes t g d (o + step_size s) → Reaches g (bodies_pass t rest (within g d ws)) ws e) →
         Reaches g (passed v g o (o + step_size s) ws (λ stage. bodies_pass t rest stage)) ws e
@@ -53,7 +53,7 @@ module _ (bytes : List ℕ) (t : Tables) (lower : ElementsLower t.types) where
     complete_onward rest c ws straight fields (found _ _ (rule_forks forking make unmake)) r ih = absurd (straight_forks straight forking)
     complete_onward rest c ws straight fields (found _ _ (rule_ends ending r₂)) r ih = absurd (straight_ends straight ending)
 
-    complete_end : (rest : Row) (c : Account) (ws : List Waiting) {v : Finding} {o : ℕ} {s : Action} → Ending s → Fields (program bytes t) s →
+    complete_end : (rest : Row) (c : Account) (ws : List Waiting) {v : Result Finding Cause} {o : ℕ} {s : Action} → Ending s → Fields (program bytes t) s →
         Found bytes t g lower (length ws) c o s v → AccountDerives bytes t g c o (Some (Step s)) → Chain bytes rest (o + step_size s) →
         Reaches g (passed v g o (o + step_size s) ws (λ stage. bodies_pass t rest stage)) ws (o + step_size s)
     complete_end rest c ws ending fields (found_broken never) r ch = absurd (never (λ second fk. absurd (forks_ends fk ending)) fields r)
@@ -74,7 +74,7 @@ module _ (bytes : List ℕ) (t : Tables) (lower : ElementsLower t.types) where
           same = first.same ∙ ap (λ x. cond x (bodies_pass t first.behind (within g w.account ws)) (fault WrongSecond w.place)) b ∙ k.same;
         }
 
-    complete_forks : (rest : Row) (c : Account) (ws : List Waiting) {v : Finding} {o e second : ℕ} {s : Action} → Forking s second → Fields (program bytes t) s →
+    complete_forks : (rest : Row) (c : Account) (ws : List Waiting) {v : Result Finding Cause} {o e second : ℕ} {s : Action} → Forking s second → Fields (program bytes t) s →
         length ws < waiting_limit → Found bytes t g lower (length ws) c o s v → AccountDerives bytes t g c o (Some (Step s)) →
         ((d : Account) (w : Waiting) → DerivesAt bytes t g d (o + step_size s) → Reaches g (bodies_pass t rest (within g d (w ∷ ws))) (w ∷ ws) second) →
         ((row : Row) → Chain bytes row second → (d : Account) → DerivesAt bytes t g d second → Reaches g (bodies_pass t row (within g d ws)) ws e) →
@@ -128,18 +128,18 @@ module _ (bytes : List ℕ) (t : Tables) (lower : ElementsLower t.types) where
   pub derives_passed : {o : ℕ} {fs : List FunctionEntry} → Layout bytes t o fs → Each bytes t fs → (r : Row) → Chain bytes r o → fetch bytes (length bytes) ≡ None → bodies_pass t r between ≡ Ok tt
   derives_passed (layout_ends z) each_none (end x) ch n = refl
   derives_passed (layout_ends z) each_none (broken x) ch n = elim ch [ ]
-  derives_passed (layout_ends z) each_none (next a x rest) (chain_next f ch) n = let q = ap (fetch bytes) z in impossible (cc)
-  derives_passed (layout_type x f l) es (end y) (chain_end z f₂) n = impossible (cc)
+  derives_passed (layout_ends z) each_none (next a x rest) (chain_next f ch) n = let q = ap (fetch bytes) z in cc
+  derives_passed (layout_type x f l) es (end y) (chain_end z f₂) n = cc
   derives_passed (layout_type x f l) es (broken y) ch n = elim ch [ ]
   derives_passed (layout_type x f l) es (next a (ListType y) rest) (chain_next f₂ ch) n = derives_passed l es rest ch n
-  derives_passed (layout_type x f l) es (next a (Function g) rest) (chain_next f₂ ch) n = impossible (cc)
-  derives_passed (layout_type x f l) es (next a (Step s) rest) (chain_next f₂ ch) n = impossible (cc)
-  derives_passed (layout_function g f br l) es (end x) (chain_end z f₂) n = impossible (cc)
+  derives_passed (layout_type x f l) es (next a (Function g) rest) (chain_next f₂ ch) n = cc
+  derives_passed (layout_type x f l) es (next a (Step s) rest) (chain_next f₂ ch) n = cc
+  derives_passed (layout_function g f br l) es (end x) (chain_end z f₂) n = cc
   derives_passed (layout_function g f br l) es (broken x) ch n = elim ch [ ]
-  derives_passed (layout_function g f br l) es (next a (ListType y) rest) (chain_next f₂ ch) n = impossible (cc)
+  derives_passed (layout_function g f br l) es (next a (ListType y) rest) (chain_next f₂ ch) n = cc
   derives_passed (layout_function g f br l) (each_more k es) (next a (Function h) rest) (chain_next f₂ ch) n =
       let same : h ≡ g = cc in
       let start = in_context bytes t g (sym (opening_context t.types lower g)) k in
       let q = on_body g (complete_branch g br rest ch (opening g) [] refl start) (λ row ch₂. derives_passed l es row ch₂ n) in
       subst (λ x. bodies_pass t rest (within x (opening x) []) ≡ Ok tt) (sym same) q
-  derives_passed (layout_function g f br l) es (next a (Step s) rest) (chain_next f₂ ch) n = impossible (cc)
+  derives_passed (layout_function g f br l) es (next a (Step s) rest) (chain_next f₂ ch) n = cc

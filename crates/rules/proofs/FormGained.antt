@@ -13,7 +13,7 @@ use Rattle.rules.specs.Branches.{Branch, step_then, ends_with, forks_with}
 use Rattle.rules.specs.Form.{TypeRecords, no_types, type_then, Functions, no_functions, function_then, Signed, Form}
 use Rattle.rules.specs.Tests.{is_list_type}
 use Rattle.rules.specs.SecondRound.{numbers_listed, with_type, with_function, no_tables}
-use Rattle.rules.proofs.Truth.{impossible, split}
+use Rattle.rules.proofs.Truth.{split}
 use Rattle.rules.proofs.Numbered.{type_of_list, list_type_true}
 use Rattle.rules.proofs.Chains.{Layout, layout_ends, layout_type, layout_function}
 use Rattle.rules.proofs.Cuts.{fetch_end}
@@ -29,9 +29,9 @@ numbers_list ts lower t e =
 module _ (bytes : List ℕ) (t : Tables) where
   -- steps add nothing to the tables
   adds_behind : {o : ℕ} {a u : Tables} (s : Action) → fetch bytes o ≡ Some (Step s) → Adds bytes o a u → Adds bytes (o + step_size s) a u
-  adds_behind {o} s f (adds_none z n) = let e = fetch_end bytes o (omega arith) in impossible (cc)
-  adds_behind s f (adds_type x f₂ z n l k) = impossible (cc)
-  adds_behind s f (adds_function g f₂ n sg r k) = impossible (cc)
+  adds_behind {o} s f (adds_none z n) = let e = fetch_end bytes o (omega arith) in cc
+  adds_behind s f (adds_type x f₂ z n l k) = cc
+  adds_behind s f (adds_function g f₂ n sg r k) = cc
   adds_behind {o} {a} {u} s f (adds_step s₂ f₂ n k) = let same : s₂ ≡ s = cc in subst (λ x. Adds bytes (o + step_size x) a u) same k
 
   adds_behind_branch : {w o e : ℕ} → Branch (program bytes t) w o e → {a u : Tables} → Adds bytes o a u → Adds bytes e a u
@@ -69,26 +69,26 @@ module _ (bytes : List ℕ) (t : Tables) where
     few = few;
     signed = λ f h. absurd (omega arith);
   }
-  functions_end {o} z few (adds_type x f z₂ n l k) = let e = fetch_end bytes o (omega arith) in impossible (cc)
-  functions_end {o} z few (adds_function g f n s r k) = let e = fetch_end bytes o (omega arith) in impossible (cc)
-  functions_end {o} z few (adds_step s f n k) = let e = fetch_end bytes o (omega arith) in impossible (cc)
+  functions_end {o} z few (adds_type x f z₂ n l k) = let e = fetch_end bytes o (omega arith) in cc
+  functions_end {o} z few (adds_function g f n s r k) = let e = fetch_end bytes o (omega arith) in cc
+  functions_end {o} z few (adds_step s f n k) = let e = fetch_end bytes o (omega arith) in cc
 
   functions_added : {o : ℕ} {es : List FunctionEntry} → Layout bytes t o es → {a u : Tables} → 0 < length a.functions → length a.functions ≤ function_limit →
       Adds bytes o a u → FunctionsAdded o a u es
   functions_added (layout_ends z) some few k = functions_end z few k
-  functions_added (layout_type {o} x f l) some few (adds_none z n) = let e = fetch_end bytes o (omega arith) in impossible (cc)
+  functions_added (layout_type {o} x f l) some few (adds_none z n) = let e = fetch_end bytes o (omega arith) in cc
   functions_added (layout_type x f l) some few (adds_type y f₂ z n low k) = absurd (omega arith)
-  functions_added (layout_type x f l) some few (adds_function g f₂ n s r k) = impossible (cc)
-  functions_added (layout_type x f l) some few (adds_step s f₂ n k) = impossible (cc)
-  functions_added (layout_function {o} g f br l) some few (adds_none z n) = let e = fetch_end bytes o (omega arith) in impossible (cc)
-  functions_added (layout_function g f br l) some few (adds_type y f₂ z n low k) = impossible (cc)
+  functions_added (layout_type x f l) some few (adds_function g f₂ n s r k) = cc
+  functions_added (layout_type x f l) some few (adds_step s f₂ n k) = cc
+  functions_added (layout_function {o} g f br l) some few (adds_none z n) = let e = fetch_end bytes o (omega arith) in cc
+  functions_added (layout_function g f br l) some few (adds_type y f₂ z n low k) = cc
   functions_added (layout_function {o} {fs = es} g f br l) {a} {u} some few (adds_function h f₂ n s r k) =
       let same : h ≡ g = cc in
       let longer = length-append a.functions (record { signature = h; body = o + 11 } ∷ []) in
       let rest = functions_added l {a = with_function a h (o + 11)} {u = u} (omega arith) (omega arith) (adds_behind_branch br k) in
       subst (λ x. FunctionsAdded o a u (record { signature = x; body = o + 11 } ∷ es)) same
       (one_function_more h (f ∙ ap (λ x. Some (Function x)) (sym same)) br s rest)
-  functions_added (layout_function g f br l) some few (adds_step s f₂ n k) = impossible (cc)
+  functions_added (layout_function g f br l) some few (adds_step s f₂ n k) = cc
 
   -- what the records from o on add to tables that have no function
   record TypesAdded (o : ℕ) (a u : Tables) (es : List FunctionEntry) : Type 0 where
@@ -143,16 +143,16 @@ module _ (bytes : List ℕ) (t : Tables) where
   types_added : {o : ℕ} {es : List FunctionEntry} → Layout bytes t o es → {a u : Tables} → a.functions ≡ [] → length a.types ≤ type_limit →
       Adds bytes o a u → TypesAdded o a u es
   types_added (layout_ends z) none few (adds_none z₂ n) = let l = ap length none in absurd (omega arith)
-  types_added (layout_ends {o} z) none few (adds_type y f₂ z₂ n low k) = let e = fetch_end bytes o (omega arith) in impossible (cc)
-  types_added (layout_ends {o} z) none few (adds_function g f₂ n s r k) = let e = fetch_end bytes o (omega arith) in impossible (cc)
-  types_added (layout_ends {o} z) none few (adds_step s f₂ n k) = let e = fetch_end bytes o (omega arith) in impossible (cc)
+  types_added (layout_ends {o} z) none few (adds_type y f₂ z₂ n low k) = let e = fetch_end bytes o (omega arith) in cc
+  types_added (layout_ends {o} z) none few (adds_function g f₂ n s r k) = let e = fetch_end bytes o (omega arith) in cc
+  types_added (layout_ends {o} z) none few (adds_step s f₂ n k) = let e = fetch_end bytes o (omega arith) in cc
   types_added (layout_type x f l) none few (adds_none z n) = let l = ap length none in absurd (omega arith)
   types_added (layout_type {o} {fs = es} x f l) {a} {u} none few (adds_type y f₂ z n low k) =
       let longer = length-append a.types (y ∷ []) in one_type_more y f₂ (types_added l {a = with_type a y} {u = u} none (omega arith) k)
-  types_added (layout_type x f l) none few (adds_function g f₂ n s r k) = impossible (cc)
-  types_added (layout_type x f l) none few (adds_step s f₂ n k) = impossible (cc)
+  types_added (layout_type x f l) none few (adds_function g f₂ n s r k) = cc
+  types_added (layout_type x f l) none few (adds_step s f₂ n k) = cc
   types_added (layout_function g f br l) none few (adds_none z n) = let l = ap length none in absurd (omega arith)
-  types_added (layout_function g f br l) none few (adds_type y f₂ z n low k) = impossible (cc)
+  types_added (layout_function g f br l) none few (adds_type y f₂ z n low k) = cc
   types_added (layout_function {o} {fs = es} g f br l) {a} {u} none few (adds_function h f₂ n s r k) =
       let same : h ≡ g = cc in
       let empty = ap length none in
@@ -160,7 +160,7 @@ module _ (bytes : List ℕ) (t : Tables) where
       let rest = functions_added l {a = with_function a h (o + 11)} {u = u} (omega arith) (omega arith) (adds_behind_branch br k) in
       subst (λ x. TypesAdded o a u (record { signature = x; body = o + 11 } ∷ es)) same
       (first_function h (f ∙ ap (λ x. Some (Function x)) (sym same)) br none few s (r empty) rest)
-  types_added (layout_function g f br l) none few (adds_step s f₂ n k) = impossible (cc)
+  types_added (layout_function g f br l) none few (adds_step s f₂ n k) = cc
 
   pub record Formed (es : List FunctionEntry) : Type 0 where
     pub form : Form bytes t

@@ -9,7 +9,7 @@ use Rattle.rules.specs.Programs.{Tables, program, signature_of}
 use Rattle.rules.specs.Branches.{Branch, step_then, ends_with, forks_with}
 use Rattle.rules.specs.Form.{TypeRecords, no_types, type_then, Functions, no_functions, function_then, Signed, Form}
 use Rattle.rules.specs.SecondRound.{numbers_listed, with_type, with_function, no_tables}
-use Rattle.rules.proofs.Truth.{impossible, join}
+use Rattle.rules.proofs.Truth.{join}
 use Rattle.rules.proofs.Numbered.{type_of_list, number_only, true_list_type}
 use Rattle.rules.proofs.Chains.{Layout, layout_ends, layout_type, layout_function}
 use Rattle.rules.proofs.Cuts.{Whole, whole_end, whole_next}
@@ -17,7 +17,7 @@ use Rattle.rules.proofs.Gathers.{Adds, adds_none, adds_type, adds_function, adds
 use Rattle.rules.proofs.Lower.{type_record_at}
 
 positive_list : (ts : List NodeType) (t a : ℕ) → type_of ts t ≡ list number a → 0 < t
-positive_list ts zero a e = impossible (cc)
+positive_list ts zero a e = cc
 positive_list ts (suc t) a e = omega arith
 
 -- the number of a list of Number passes the test

@@ -1,5 +1,5 @@
 -- What the check finds of a step agrees with the form and the rules together.
-use Rattle.std.proofs.Common.{◌≡◌, ℕ, ◌<◌, Bool, true, false, ltb, List, length, Some, refl, ltb-true, lt-ltb}
+use Rattle.std.proofs.Common.{◌≡◌, ℕ, ◌<◌, Bool, true, false, ltb, List, length, Some, Err, Result, refl, ltb-true, lt-ltb}
 use Rattle.records.specs.declared.faults.Cause.{Cause}
 use Rattle.records.specs.declared.kinds.Signature.{Signature}
 use Rattle.records.specs.declared.kinds.Step.{Step as Action}
@@ -7,15 +7,14 @@ use Rattle.records.specs.declared.kinds.Step.TheVariants.{Const, Arith, Empty, C
 use Rattle.records.specs.declared.kinds.Record.TheVariants.{Step}
 use Rattle.rules.specs.declared.accounts.Account.{Account}
 use Rattle.rules.specs.declared.findings.Finding.{Finding}
-use Rattle.rules.specs.declared.findings.Finding.TheVariants.{Broken}
 use Rattle.records.specs.declared.faults.Cause.TheVariants.{TooManyWaiting, BadField}
 use Rattle.rules.specs.Limits.{slot_count, waiting_limit, op_count}
 use Rattle.rules.specs.Types.{ElementsLower}
 use Rattle.rules.specs.Programs.{Tables, program, signature_of}
 use Rattle.rules.specs.Branches.{Forking, is_match, is_if, Fields}
-use Rattle.rules.specs.Tests.{both, padded, is_list_type}
-use Rattle.rules.specs.Findings.{need, has_room, fields_right, find_step, finding}
-use Rattle.rules.proofs.Truth.{impossible, split, join}
+use Rattle.rules.specs.Tests.{need, both, padded, is_list_type}
+use Rattle.rules.specs.Findings.{has_room, fields_right, find_step, finding}
+use Rattle.rules.proofs.Truth.{split, join}
 use Rattle.rules.proofs.Numbered.{list_type_true, true_list_type, padded_true, true_padded}
 use Rattle.rules.proofs.Ruled.{AccountDerives, Ruled}
 use Rattle.rules.proofs.Straights.{ruled_const, ruled_arith, ruled_empty, ruled_cons}
@@ -64,15 +63,9 @@ module _ (bytes : List ℕ) (t : Tables) where
   abbrev pub Room : ℕ → Action → Type 0
   Room waiting s = (second : ℕ) → Forking s second → waiting < waiting_limit
 
-  room_true : (waiting : ℕ) (s : Action) → has_room waiting s ≡ true → Room waiting s
-  room_true waiting (Match a h l second) e _ f = ltb-true waiting waiting_limit e
-  room_true waiting (If a second) e _ f = ltb-true waiting waiting_limit e
-  room_true waiting (Const d n) e _ f = elim f [ ]
-  room_true waiting (Arith d op a b) e _ f = elim f [ ]
-  room_true waiting (Empty d u) e _ f = elim f [ ]
-  room_true waiting (Cons d u h l) e _ f = elim f [ ]
-  room_true waiting (Call d g slots) e _ f = elim f [ ]
-  room_true waiting (Return a) e _ f = elim f [ ]
+  room_true : (waiting : ℕ) {s : Action} {second : ℕ} → has_room waiting s ≡ true → Forking s second → waiting < waiting_limit
+  room_true waiting e is_match = ltb-true waiting waiting_limit e
+  room_true waiting e is_if = ltb-true waiting waiting_limit e
 
   true_room : (waiting : ℕ) (s : Action) → Room waiting s → has_room waiting s ≡ true
   true_room waiting (Match a h l second) r = lt-ltb waiting waiting_limit (r second is_match)
@@ -96,20 +89,20 @@ module _ (bytes : List ℕ) (t : Tables) where
     ruled c o (If a second) f = ruled_if bytes t g c o a second
 
     -- A finding agrees with form and rules for the step s at o, where so many second branches wait.
-    pub data Found (waiting : ℕ) (c : Account) (o : ℕ) (s : Action) : Finding → Type 0 where
+    pub data Found (waiting : ℕ) (c : Account) (o : ℕ) (s : Action) : Result Finding Cause → Type 0 where
       found_broken : {cause : Cause} → (Room waiting s → Fields (program bytes t) s → AccountDerives bytes t g c o (Some (Step s)) → ⊥) →
-          Found waiting c o s (Broken cause)
-      found : {v : Finding} → Room waiting s → Fields (program bytes t) s → Ruled bytes t g c o s v → Found waiting c o s v
+          Found waiting c o s (Err cause)
+      found : {v : Result Finding Cause} → Room waiting s → Fields (program bytes t) s → Ruled bytes t g c o s v → Found waiting c o s v
 
-    with_fields : (waiting : ℕ) (c : Account) (o : ℕ) (s : Action) (v : Finding) → Room waiting s →
+    with_fields : (waiting : ℕ) (c : Account) (o : ℕ) (s : Action) (v : Result Finding Cause) → Room waiting s →
         (Fields (program bytes t) s → Ruled bytes t g c o s v) → (b : Bool) → fields_right t s ≡ b → Found waiting c o s (need BadField b v)
     with_fields waiting c o s v room rule true e = found room (fields_true s e) (rule (fields_true s e))
-    with_fields waiting c o s v room rule false e = found_broken (λ _ f r. let k = true_fields s f in impossible (cc))
+    with_fields waiting c o s v room rule false e = found_broken (λ _ f r. let k = true_fields s f in cc)
 
-    with_room : (waiting : ℕ) (c : Account) (o : ℕ) (s : Action) (v : Finding) → (Fields (program bytes t) s → Ruled bytes t g c o s v) →
+    with_room : (waiting : ℕ) (c : Account) (o : ℕ) (s : Action) (v : Result Finding Cause) → (Fields (program bytes t) s → Ruled bytes t g c o s v) →
         (b : Bool) → has_room waiting s ≡ b → Found waiting c o s (need TooManyWaiting b (need BadField (fields_right t s) v))
-    with_room waiting c o s v rule true e = with_fields waiting c o s v (room_true waiting s e) rule (fields_right t s) refl
-    with_room waiting c o s v rule false e = found_broken (λ r _ _. let k = true_room waiting s r in impossible (cc))
+    with_room waiting c o s v rule true e = with_fields waiting c o s v (λ second f. room_true waiting e f) rule (fields_right t s) refl
+    with_room waiting c o s v rule false e = found_broken (λ r _ _. let k = true_room waiting s r in cc)
 
     pub found_of : (waiting : ℕ) (c : Account) (o : ℕ) (s : Action) → Found waiting c o s (finding t g waiting c s)
     found_of waiting c o s = with_room waiting c o s (find_step t g c s) (ruled c o s) (has_room waiting s) refl

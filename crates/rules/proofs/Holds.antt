@@ -12,7 +12,6 @@ use Rattle.rules.specs.SecondRound.{no_tables, gathered}
 use Rattle.rules.specs.ThirdRound.{Answer, between, bodies_pass}
 use Rattle.rules.specs.Verdict.{after_third, after_second, after_first, verdict}
 use Rattle.rules.specs.Law.{CheckAcceptsWhatTheRulesDerive}
-use Rattle.rules.proofs.Truth.{impossible}
 use Rattle.rules.proofs.Chains.{Each, each_none, each_more}
 use Rattle.rules.proofs.Cuts.{fetch_end, whole_chain, first_whole, first_passes}
 use Rattle.rules.proofs.Gathers.{gathered_adds, adds_gathered}
@@ -34,7 +33,7 @@ module _ (bytes : List ℕ) (t : Tables) where
 
   after_third_passed : (v : Answer) (u : Tables) → after_third v u ≡ Ok t → (u ≡ t) × (v ≡ Ok tt)
   after_third_passed (Ok tt) u q = (cc, refl)
-  after_third_passed (Err f) u q = impossible (cc)
+  after_third_passed (Err f) u q = cc
 
   record RoundsPass : Type 0 where
     tally : Tally
@@ -44,13 +43,13 @@ module _ (bytes : List ℕ) (t : Tables) where
 
   second_passed : (v : Result Tables Fault) → gathered (row bytes 0) no_tables ≡ v → after_second v (row bytes 0) ≡ Ok t →
       (gathered (row bytes 0) no_tables ≡ Ok t) × (bodies_pass t (row bytes 0) between ≡ Ok tt)
-  second_passed (Err f) e q = impossible (cc)
+  second_passed (Err f) e q = cc
   second_passed (Ok u) e q =
       let k = after_third_passed (bodies_pass u (row bytes 0) between) u q in
       (e ∙ ap (λ (x : Tables). Ok x) k.0, subst (λ (x : Tables). bodies_pass x (row bytes 0) between ≡ Ok tt) k.0 k.1)
 
   first_passed : (v : Result Tally Fault) → first_round bytes ≡ v → after_first v (row bytes 0) ≡ Ok t → RoundsPass
-  first_passed (Err f) e q = impossible (cc)
+  first_passed (Err f) e q = cc
   first_passed (Ok u) e q =
       let k = second_passed (gathered (row bytes 0) no_tables) refl q in record { tally = u; first = e; second = k.0; third = k.1 }
 

@@ -17,8 +17,6 @@ pub mod FormGained
 pub mod FormMet
 pub mod Holds
 pub mod Entries
-pub mod Uses
 pub mod Turns
-pub mod Additions
 pub mod Decided
 pub mod Reached

@@ -7,7 +7,7 @@ use Rattle.rules.specs.Types.{Ty, number, list, type_record, type_within, type_o
 use Rattle.rules.specs.Branches.{Padded, no_fields, unused_field, used_field, ListType}
 use Rattle.rules.specs.Tests.{covers, padded, is_list_type}
 use Rattle.rules.specs.Accounts.{list_type, slot_type, slot_of}
-use Rattle.rules.proofs.Truth.{impossible, split, join}
+use Rattle.rules.proofs.Truth.{split, join}
 
 -- any depth from the number on is deep enough
 same_within : (ts : List NodeType) → ElementsLower ts → (m n t : ℕ) → t ≤ m → t ≤ n → type_within m ts t ≡ type_within n ts t
@@ -37,12 +37,12 @@ slot_of_type ts lower (suc t) =
 -- only 0 stands for Number
 pub number_only : (ts : List NodeType) (t : ℕ) → type_of ts t ≡ number → t ≡ 0
 number_only ts zero e = refl
-number_only ts (suc t) e = impossible (cc)
+number_only ts (suc t) e = cc
 
 pub covers_true : (s t : Ty) → covers s t ≡ true → Covers s t
 covers_true number number e = number_covers
-covers_true number (list t b) e = impossible (cc)
-covers_true (list s a) number e = impossible (cc)
+covers_true number (list t b) e = cc
+covers_true (list s a) number e = cc
 covers_true (list s a) (list t b) e =
     let k = split (leb b a) (covers s t) e in list_covers (leb-true b a k.0) (covers_true s t k.1)
 
@@ -60,7 +60,7 @@ true_list_type {ts} {t} l = join (lt-ltb 0 t l.positive) (le-leb t (length ts) l
 
 pub padded_true : (limit n : ℕ) (xs : List ℕ) → padded limit n xs ≡ true → Padded limit n xs
 padded_true limit zero [] e = no_fields
-padded_true limit (suc n) [] e = impossible (cc)
+padded_true limit (suc n) [] e = cc
 padded_true limit zero (x ∷ xs) e =
     let k = split (eqb x unused) (padded limit zero xs) e in
     subst (λ y. Padded limit zero (y ∷ xs)) (sym (eqb-true x unused k.0)) (unused_field (padded_true limit zero xs k.1))
@@ -71,3 +71,10 @@ pub true_padded : {limit n : ℕ} {xs : List ℕ} → Padded limit n xs → padd
 true_padded no_fields = refl
 true_padded (unused_field q) = true_padded q
 true_padded {limit} (used_field {x = x} h q) = join (lt-ltb x limit h) (true_padded q)
+
+-- padded fields are as many as are used
+pub padded_count : (limit n : ℕ) (xs : List ℕ) → padded limit n xs ≡ true → n ≤ length xs
+padded_count limit zero [] e = omega arith
+padded_count limit (suc n) [] e = cc
+padded_count limit zero (x ∷ xs) e = omega arith
+padded_count limit (suc n) (x ∷ xs) e = let k = padded_count limit n xs (split (ltb x limit) (padded limit n xs) e).1 in omega arith

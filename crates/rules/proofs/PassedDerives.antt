@@ -1,5 +1,6 @@
 -- What the third round passes derives: every body is one branch of the right form, and every function derives.
-use Rattle.std.proofs.Common.{◌≡◌, ℕ, ◌+◌, ◌<◌, Bool, true, false, cond, eqb, List, [], ◌∷◌, length, Some, Ok, sym, refl, subst, eqb-true}
+use Rattle.std.proofs.Common.{◌≡◌, ℕ, ◌+◌, ◌<◌, Bool, true, false, cond, eqb, List, [], ◌∷◌, length, Some, Ok, Result, sym, refl, subst, eqb-true}
+use Rattle.records.specs.declared.faults.Cause.{Cause}
 use Rattle.records.specs.declared.faults.Cause.TheVariants.{WrongSecond}
 use Rattle.records.specs.declared.kinds.NodeType.{NodeType}
 use Rattle.records.specs.declared.kinds.Signature.{Signature}
@@ -18,7 +19,6 @@ use Rattle.rules.specs.Branches.{Straight, Forking, Fields, Branch, step_then, e
 use Rattle.rules.specs.Accounts.{opening}
 use Rattle.rules.specs.SecondRound.{fault}
 use Rattle.rules.specs.ThirdRound.{Stage, between, within, waits, branch_ended, passed, bodies_pass}
-use Rattle.rules.proofs.Truth.{impossible}
 use Rattle.rules.proofs.Contexts.{opening_context}
 use Rattle.rules.proofs.Ruled.{AccountDerives, DerivesAt, in_context, rule_breaks, rule_onward, rule_forks, rule_ends}
 use Rattle.rules.proofs.Found.{Found, found_broken, found, found_of}
@@ -65,16 +65,16 @@ module _ (bytes : List ℕ) (t : Tables) (lower : ElementsLower t.types) where
     sound_test : (w : Waiting) (ws : List Waiting) (b : Bool) → eqb w.second (o + step_size s) ≡ b →
         cond b (bodies_pass t rest (within g w.account ws)) (fault WrongSecond w.place) ≡ Ok tt → WaitingDerive g (w ∷ ws) (o + step_size s)
     sound_test w ws true e q = sound_second (eqb-true w.second (o + step_size s) e) (behind (within g w.account ws) q)
-    sound_test w ws false e q = impossible (cc)
+    sound_test w ws false e q = cc
 
     sound_end : (ws : List Waiting) → branch_ended g ws (o + step_size s) (λ stage. bodies_pass t rest stage) ≡ Ok tt → WaitingDerive g ws (o + step_size s)
     sound_end [] q = sound_last (behind between q)
     sound_end (w ∷ ws) q = sound_test w ws (eqb w.second (o + step_size s)) refl q
 
-    sound_step : (c : Account) (ws : List Waiting) {v : Finding} → Found bytes t g lower (length ws) c o s v →
+    sound_step : (c : Account) (ws : List Waiting) {v : Result Finding Cause} → Found bytes t g lower (length ws) c o s v →
         passed v g o (o + step_size s) ws (λ stage. bodies_pass t rest stage) ≡ Ok tt → BranchesDerive g c ws o
-    sound_step c ws (found_broken never) q = impossible (cc)
-    sound_step c ws (found room fields (rule_breaks never)) q = impossible (cc)
+    sound_step c ws (found_broken never) q = cc
+    sound_step c ws (found room fields (rule_breaks never)) q = cc
     sound_step c ws (found room fields (rule_onward {d} straight make unmake)) q = sound_onward c straight fields make (behind (within g d ws) q)
     sound_step c ws (found room fields (rule_forks {first} {later} {second} forking make unmake)) q =
         sound_forks c {w = waits o second later} forking fields (room second forking) make (behind (within g first (waits o second later ∷ ws)) q)
@@ -89,12 +89,12 @@ module _ (bytes : List ℕ) (t : Tables) (lower : ElementsLower t.types) where
 
   sound : {r : Row} {o : ℕ} → Chain bytes r o → (stage : Stage) → bodies_pass t r stage ≡ Ok tt → StageDerives stage o
   sound (chain_end z f) between q = functions (layout_ends z) each_none
-  sound (chain_end z f) (within g c ws) q = impossible (cc)
+  sound (chain_end z f) (within g c ws) q = cc
   sound (chain_next {r = ListType x} f ch) between q = sound_type f (sound ch between q)
-  sound (chain_next {r = ListType x} f ch) (within g c ws) q = impossible (cc)
+  sound (chain_next {r = ListType x} f ch) (within g c ws) q = cc
   sound (chain_next {r = Function h} f ch) between q = sound_function f (sound ch (within h (opening h) []) q)
-  sound (chain_next {r = Function h} f ch) (within g c ws) q = impossible (cc)
-  sound (chain_next {r = Step s} f ch) between q = impossible (cc)
+  sound (chain_next {r = Function h} f ch) (within g c ws) q = cc
+  sound (chain_next {r = Step s} f ch) between q = cc
   sound (chain_next {o} {r = Step s} {rest} f ch) (within g c ws) q =
       sound_step g s o rest f (λ stage e. sound ch stage e) c ws (found_of bytes t g lower (length ws) c o s) q
 

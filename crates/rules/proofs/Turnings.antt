@@ -16,7 +16,7 @@ use Rattle.rules.specs.Rules.{Derives, derive_return, derive_match, derive_if}
 use Rattle.rules.specs.Tests.{both}
 use Rattle.rules.specs.Accounts.{list_type, slot_type, slot_of, is_filled, slot_covers, slot_at, with_slot, after_use, may_bind, any_list}
 use Rattle.rules.specs.Findings.{find_return, find_opened, find_if}
-use Rattle.rules.proofs.Truth.{impossible, split, join}
+use Rattle.rules.proofs.Truth.{split, join}
 use Rattle.rules.proofs.Numbered.{slot_of_type}
 use Rattle.rules.proofs.Contexts.{context_of, slot_at_type, use_context, bind_context, uses, uses_filled, uses_cover, binds, binds_may, no_lists, none_left}
 use Rattle.rules.proofs.Ruled.{Ruled, rule_breaks, rule_forks, rule_ends, by_need, in_context}
@@ -88,9 +88,9 @@ module _ (bytes : List ℕ) (t : Tables) (g : Signature) where
     ruled_opened : (c : Account) (o a h l second : ℕ) (x : Slot) → slot_at c a ≡ x →
         Ruled bytes t g c o (Match a h l second) (find_opened t.types x (after_use c a) h l second)
     ruled_opened c o a h l second Vacant e =
-        rule_breaks (λ r. let f = (match_list r).2 in let k = slot_at_type t.types c a in let j = ap (slot_type t.types) e in impossible (cc))
+        rule_breaks (λ r. let f = (match_list r).2 in let k = slot_at_type t.types c a in let j = ap (slot_type t.types) e in cc)
     ruled_opened c o a h l second Number e =
-        rule_breaks (λ r. let f = (match_list r).2 in let k = slot_at_type t.types c a in let j = ap (slot_type t.types) e in impossible (cc))
+        rule_breaks (λ r. let f = (match_list r).2 in let k = slot_at_type t.types c a in let j = ap (slot_type t.types) e in cc)
     ruled_opened c o a h l second (ListOf u) e =
         let ts = t.types in
         let v = after_use c a in

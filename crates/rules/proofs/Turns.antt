@@ -1,11 +1,11 @@
 -- What the loops of the third round carry from turn to turn, and how each turn keeps it. A balance is at most 65,536 for each
 -- byte passed, since every step has a byte and gains no more than that: so it never reaches the limit of its type.
-use Rattle.std.proofs.Common.{◌≡◌, ℕ, suc, ◌+◌, ◌-◌, ◌*◌, ◌<◌, ◌≤◌, cond, List, [], ◌∷◌, length, drop, sym, ap, ◌∙◌, subst, arith, eq-eqb, ne_eqb}
+use Rattle.std.proofs.Common.{◌≡◌, ℕ, suc, ◌+◌, ◌-◌, ◌*◌, ◌<◌, ◌≤◌, cond, List, [], ◌∷◌, length, drop, Ok, Result, sym, ap, ◌∙◌, subst, arith, eq-eqb, ne_eqb}
+use Rattle.records.specs.declared.faults.Cause.{Cause}
 use Rattle.records.specs.declared.faults.Cause.TheVariants.{WrongSecond}
-use Rattle.records.specs.declared.kinds.NodeType.{NodeType}
 use Rattle.records.specs.declared.kinds.Signature.{Signature}
 use Rattle.records.specs.declared.kinds.Step.{Step as Action}
-use Rattle.records.specs.declared.kinds.Record.TheVariants.{ListType, Function, Step}
+use Rattle.records.specs.declared.kinds.Record.TheVariants.{Step}
 use Rattle.records.specs.Writing.{step_size}
 use Rattle.records.specs.Rows.{row}
 use Rattle.records.proofs.Positive.{step_size_positive}
@@ -17,25 +17,23 @@ use Rattle.rules.specs.declared.findings.Finding.TheVariants.{Onward, Forks, End
 use Rattle.rules.specs.Limits.{waiting_limit}
 use Rattle.rules.specs.Types.{ElementsLower}
 use Rattle.rules.specs.Programs.{Tables}
-use Rattle.rules.specs.Accounts.{opening}
 use Rattle.rules.specs.Findings.{finding}
 use Rattle.rules.specs.SecondRound.{fault}
 use Rattle.rules.specs.ThirdRound.{Answer, between, within, waits, branch_ended, passed, bodies_pass}
-use Rattle.rules.proofs.Truth.{impossible}
 use Rattle.rules.proofs.Ruled.{rule_breaks, rule_onward, rule_forks, rule_ends}
 use Rattle.rules.proofs.Found.{Found, found_broken, found, found_of}
 
 -- a fork finds room
-room_found : (t : Tables) (g : Signature) (lower : ElementsLower t.types) (waiting : ℕ) (c : Account) (s : Action) (v : Finding) (first later : Account) (second : ℕ) →
-    Found [] t g lower waiting c 0 s v → v ≡ Forks first second later → waiting < waiting_limit
-room_found t g lower waiting c s v first later second (found_broken never) e = impossible (cc)
-room_found t g lower waiting c s v first later second (found room fields (rule_breaks never)) e = impossible (cc)
-room_found t g lower waiting c s v first later second (found room fields (rule_onward straight make unmake)) e = impossible (cc)
+room_found : (t : Tables) (g : Signature) (lower : ElementsLower t.types) (waiting : ℕ) (c : Account) (s : Action) (v : Result Finding Cause) (first later : Account) (second : ℕ) →
+    Found [] t g lower waiting c 0 s v → v ≡ Ok (Forks first second later) → waiting < waiting_limit
+room_found t g lower waiting c s v first later second (found_broken never) e = cc
+room_found t g lower waiting c s v first later second (found room fields (rule_breaks never)) e = cc
+room_found t g lower waiting c s v first later second (found room fields (rule_onward straight make unmake)) e = cc
 room_found t g lower waiting c s v first later second (found room fields (rule_forks {second = n} forking make unmake)) e = room n forking
-room_found t g lower waiting c s v first later second (found room fields (rule_ends ending r)) e = impossible (cc)
+room_found t g lower waiting c s v first later second (found room fields (rule_ends ending r)) e = cc
 
 pub fork_has_room : (t : Tables) → ElementsLower t.types → (g : Signature) (waiting : ℕ) (c : Account) (s : Action) (first later : Account) (second : ℕ) →
-    Forks first second later ≡ finding t g waiting c s → waiting < waiting_limit
+    Ok (Forks first second later) ≡ finding t g waiting c s → waiting < waiting_limit
 fork_has_room t lower g waiting c s first later second e =
     room_found t g lower waiting c s (finding t g waiting c s) first later second (found_of [] t g lower waiting c 0 s) (sym e)
 
@@ -65,15 +63,15 @@ since earlier h k =
     record { same_bytes = k.same_bytes; onward = omega arith; size = k.size; few = k.few; balance = k.balance; balances = k.balances; verdict = k.verdict }
 
 -- the step s has been read at `at`, and the reader is at `to`
-module _ (t : Tables) (bytes lent : List ℕ) (at to : ℕ) (g : Signature) (c : Account) (ws : List Waiting) (count : ℕ) (s : Action)
-    (before : List ℕ) (from : ℕ) (k : Carried t bytes before from at g c ws count) (q : Taken bytes at (Step s) lent to) where
-  stepped : (v : Finding) → v ≡ finding t g count c s →
+module _ {t : Tables} {bytes before lent : List ℕ} {from at to : ℕ} {g : Signature} {c : Account} {ws : List Waiting} {count : ℕ} {s : Action}
+    (k : Carried t bytes before from at g c ws count) (q : Taken bytes at (Step s) lent to) where
+  stepped : (v : Result Finding Cause) → v ≡ finding t g count c s →
       passed v g at (at + step_size s) ws (λ stage. bodies_pass t (row (drop to bytes) to) stage) ≡ bodies_pass t (row bytes 0) between
   stepped v e =
       ap (λ x. passed x g at (at + step_size s) ws (λ stage. bodies_pass t (row (drop to bytes) to) stage)) (e ∙ ap (λ n. finding t g n c s) (sym k.size))
       ∙ sym (ap (λ r. bodies_pass t r (within g c ws)) q.opens) ∙ k.verdict
 
-  pub turn_onward : (d : Account) → Onward d ≡ finding t g count c s → d.balance ≤ c.balance + 65536 → Carried t bytes lent from to g d ws count
+  pub turn_onward : (d : Account) → Ok (Onward d) ≡ finding t g count c s → d.balance ≤ c.balance + 65536 → Carried t bytes lent from to g d ws count
   turn_onward d e grown =
       let m = q.moves in
       let p = step_size_positive s in
@@ -86,13 +84,14 @@ module _ (t : Tables) (bytes lent : List ℕ) (at to : ℕ) (g : Signature) (c :
         few = k.few;
         balance = omega arith;
         balances = within_more (65536 * at) (65536 * to) ws (omega arith) k.balances;
-        verdict = stepped (Onward d) e;
+        verdict = stepped (Ok (Onward d)) e;
       }
 
-  pub turn_forks : (first later : Account) (second : ℕ) → Forks first second later ≡ finding t g count c s →
-      (first.balance ≤ c.balance + 65536) × (later.balance ≤ c.balance + 65536) → (more : List Waiting) (n : ℕ) → count < waiting_limit →
+  pub turn_forks : (first later : Account) (second : ℕ) → Ok (Forks first second later) ≡ finding t g count c s →
+      (first.balance ≤ c.balance + 65536) × (later.balance ≤ c.balance + 65536) → ElementsLower t.types → (more : List Waiting) (n : ℕ) →
       n ≡ count + 1 → more ≡ waits at second later ∷ ws → Carried t bytes lent from to g first more n
-  turn_forks first later second e grown more n room en es =
+  turn_forks first later second e grown lower more n en es =
+      let room = fork_has_room t lower g count c s first later second e in
       let m = q.moves in
       let p = step_size_positive s in
       let b = k.balance in
@@ -109,26 +108,26 @@ module _ (t : Tables) (bytes lent : List ℕ) (at to : ℕ) (g : Signature) (c :
         few = omega arith;
         balance = omega arith;
         balances = subst (λ us. BalancesWithin (65536 * to) us) (sym es) low;
-        verdict = ap (λ us. bodies_pass t (row (drop to bytes) to) (within g first us)) es ∙ stepped (Forks first second later) e;
+        verdict = ap (λ us. bodies_pass t (row (drop to bytes) to) (within g first us)) es ∙ stepped (Ok (Forks first second later)) e;
       }
 
-  ended : Ends ≡ finding t g count c s → branch_ended g ws to (λ stage. bodies_pass t (row (drop to bytes) to) stage) ≡ bodies_pass t (row bytes 0) between
-  ended e = ap (λ x. branch_ended g ws x (λ stage. bodies_pass t (row (drop to bytes) to) stage)) q.moves ∙ stepped Ends e
+  ended : Ok Ends ≡ finding t g count c s → branch_ended g ws to (λ stage. bodies_pass t (row (drop to bytes) to) stage) ≡ bodies_pass t (row bytes 0) between
+  ended e = ap (λ x. branch_ended g ws x (λ stage. bodies_pass t (row (drop to bytes) to) stage)) q.moves ∙ stepped (Ok Ends) e
 
   -- the branch has ended, and none waits
-  pub turn_last : Ends ≡ finding t g count c s → ws ≡ [] → bodies_pass t (row (drop to bytes) to) between ≡ bodies_pass t (row bytes 0) between
+  pub turn_last : Ok Ends ≡ finding t g count c s → ws ≡ [] → bodies_pass t (row (drop to bytes) to) between ≡ bodies_pass t (row bytes 0) between
   turn_last e n = sym (ap (λ us. branch_ended g us to (λ stage. bodies_pass t (row (drop to bytes) to) stage)) n) ∙ ended e
 
   -- the branch has ended, and w waits
   module _ (w : Waiting) (us : List Waiting) (n : ws ≡ w ∷ us) where
-    second_test : Ends ≡ finding t g count c s → branch_ended g (w ∷ us) to (λ stage. bodies_pass t (row (drop to bytes) to) stage) ≡ bodies_pass t (row bytes 0) between
+    second_test : Ok Ends ≡ finding t g count c s → branch_ended g (w ∷ us) to (λ stage. bodies_pass t (row (drop to bytes) to) stage) ≡ bodies_pass t (row bytes 0) between
     second_test e = sym (ap (λ vs. branch_ended g vs to (λ stage. bodies_pass t (row (drop to bytes) to) stage)) n) ∙ ended e
 
-    pub turn_wrong : Ends ≡ finding t g count c s → (w.second ≡ to → ⊥) → ◌≡◌ {A = Answer} (fault WrongSecond w.place) (bodies_pass t (row bytes 0) between)
+    pub turn_wrong : Ok Ends ≡ finding t g count c s → (w.second ≡ to → ⊥) → ◌≡◌ {A = Answer} (fault WrongSecond w.place) (bodies_pass t (row bytes 0) between)
     turn_wrong e differ =
         ap (λ b. cond b (bodies_pass t (row (drop to bytes) to) (within g w.account us)) (fault WrongSecond w.place)) (sym (ne_eqb w.second to differ)) ∙ second_test e
 
-    pub turn_second : Ends ≡ finding t g count c s → w.second ≡ to → (m : ℕ) → m ≡ count - 1 → Carried t bytes lent from to g w.account us m
+    pub turn_second : Ok Ends ≡ finding t g count c s → w.second ≡ to → (m : ℕ) → m ≡ count - 1 → Carried t bytes lent from to g w.account us m
     turn_second e same m em =
         let mv = q.moves in
         let p = step_size_positive s in
@@ -148,26 +147,3 @@ module _ (t : Tables) (bytes lent : List ℕ) (at to : ℕ) (g : Signature) (c :
           verdict =
               ap (λ x. cond x (bodies_pass t (row (drop to bytes) to) (within g w.account us)) (fault WrongSecond w.place)) (sym (eq-eqb w.second to same)) ∙ second_test e;
         }
-
--- between bodies, with the reader at `at`, a record has been read
-module _ (t : Tables) (bytes lent : List ℕ) (at to : ℕ) (k : bodies_pass t (row (drop at bytes) at) between ≡ bodies_pass t (row bytes 0) between) where
-  pub turn_type : (x : NodeType) → Taken bytes at (ListType x) lent to → bodies_pass t (row (drop to bytes) to) between ≡ bodies_pass t (row bytes 0) between
-  turn_type x q = sym (ap (λ r. bodies_pass t r between) q.opens) ∙ k
-
-  pub turn_function : (g : Signature) → Taken bytes at (Function g) lent to → (c : Account) → c ≡ opening g → c.balance < 65536 →
-      (ws : List Waiting) (count : ℕ) → count ≡ 0 → ws ≡ [] → Carried t bytes lent to to g c ws count
-  turn_function g q c e small ws count n es =
-      let m = q.moves in
-      let l : length ws ≡ 0 = ap length es in
-      record {
-        same_bytes = q.keeps;
-        onward = omega arith;
-        size = omega arith;
-        few = omega arith;
-        balance = omega arith;
-        balances = subst (λ us. BalancesWithin (65536 * to) us) (sym es) tt;
-        verdict =
-            ap (λ us. bodies_pass t (row (drop to bytes) to) (within g c us)) es
-            ∙ ap (λ x. bodies_pass t (row (drop to bytes) to) (within g x [])) e
-            ∙ sym (ap (λ r. bodies_pass t r between) q.opens) ∙ k;
-      }

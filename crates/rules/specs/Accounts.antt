@@ -1,5 +1,6 @@
 -- The account that the check keeps along a branch: slots with type numbers, and the balance. Rests on types and tests.
 use Rattle.std.specs.Prelude.{ℕ, ◌+◌, Bool, true, false, cond, not, List, [], ◌∷◌, take, replicate, Some, None, Option, ◌==◌, slice_index_or, slice_set}
+use Rattle.std.specs.List.{list_any}
 use Rattle.records.specs.declared.kinds.NodeType.{NodeType}
 use Rattle.records.specs.declared.kinds.Signature.{Signature}
 use Rattle.rules.specs.declared.accounts.Slot.{Slot}
@@ -72,8 +73,7 @@ may_bind c d = not (is_list (slot_at c d))
 
 -- whether some slot has a list
 abbrev pub any_list : List Slot → Bool
-any_list [] = false
-any_list (s ∷ ss) = cond (is_list s) true (any_list ss)
+any_list ss = list_any is_list ss
 
 -- a Call's slots, used one after the other: whether all were filled, whether all covered, and the account behind them
 abbrev pub all_filled : Account → List ℕ → Bool

@@ -1,6 +1,6 @@
 -- What the check finds of one step: the tests stand in the order of their numbers, so that the smallest is given.
 -- Rests on accounts.
-use Rattle.std.specs.Prelude.{ℕ, ◌+◌, ◌-◌, Bool, true, cond, not, List, length, take, ◌==◌, nat_le, nat_lt}
+use Rattle.std.specs.Prelude.{ℕ, ◌+◌, ◌-◌, Bool, true, not, List, length, take, Ok, Err, Result, ◌==◌, nat_le, nat_lt}
 use Rattle.records.specs.declared.faults.Cause.{Cause}
 use Rattle.records.specs.declared.faults.Cause.TheVariants.{TooManyWaiting, BadField, EmptySlot, WrongType, BadBinding, ListLeft, BalanceTooSmall}
 use Rattle.records.specs.declared.kinds.NodeType.{NodeType}
@@ -11,16 +11,12 @@ use Rattle.rules.specs.declared.accounts.Slot.{Slot}
 use Rattle.rules.specs.declared.accounts.Slot.TheVariants.{Vacant, Number, ListOf}
 use Rattle.rules.specs.declared.accounts.Account.{Account}
 use Rattle.rules.specs.declared.findings.Finding.{Finding}
-use Rattle.rules.specs.declared.findings.Finding.TheVariants.{Broken, Onward, Forks, Ends}
+use Rattle.rules.specs.declared.findings.Finding.TheVariants.{Onward, Forks, Ends}
 use Rattle.rules.specs.Limits.{slot_count, waiting_limit, op_count}
 use Rattle.rules.specs.Types.{type_record}
 use Rattle.rules.specs.Programs.{Tables, signature_of}
-use Rattle.rules.specs.Tests.{both, padded, is_list_type}
+use Rattle.rules.specs.Tests.{need, both, padded, is_list_type}
 use Rattle.rules.specs.Accounts.{slot_of, is_filled, slot_covers, slot_at, with_slot, with_balance, after_use, may_bind, any_list, all_filled, all_cover, after_uses}
-
--- a test that has to hold before what follows
-abbrev pub need : Cause → Bool → Finding → Finding
-need cause test rest = cond test rest (Broken cause)
 
 -- whether a step's second branch finds room beside those that wait
 abbrev pub has_room : ℕ → Action → Bool
@@ -45,66 +41,66 @@ fields_right t (Match a h l second) = both (nat_lt a slot_count) (both (nat_lt h
 fields_right t (If a second) = nat_lt a slot_count
 
 -- Const binds d as Number
-abbrev pub find_const : Account → ℕ → Finding
-find_const c d = need BadBinding (may_bind c d) (Onward (with_slot c d Number))
+abbrev pub find_const : Account → ℕ → Result Finding Cause
+find_const c d = need BadBinding (may_bind c d) (Ok (Onward (with_slot c d Number)))
 
 -- Arith uses two Numbers and binds d as Number
-abbrev pub find_arith : List NodeType → Account → ℕ → ℕ → ℕ → Finding
+abbrev pub find_arith : List NodeType → Account → ℕ → ℕ → ℕ → Result Finding Cause
 find_arith ts c d a b =
     need EmptySlot (both (is_filled (slot_at c a)) (is_filled (slot_at (after_use c a) b)))
     (need WrongType (both (slot_covers ts (slot_at c a) 0) (slot_covers ts (slot_at (after_use c a) b) 0))
     (need BadBinding (may_bind (after_use (after_use c a) b) d)
-    (Onward (with_slot (after_use (after_use c a) b) d Number))))
+    (Ok (Onward (with_slot (after_use (after_use c a) b) d Number)))))
 
 -- Empty puts an empty list of type t into d
-abbrev pub find_empty : Account → ℕ → ℕ → Finding
-find_empty c d t = need BadBinding (may_bind c d) (Onward (with_slot c d (ListOf t)))
+abbrev pub find_empty : Account → ℕ → ℕ → Result Finding Cause
+find_empty c d t = need BadBinding (may_bind c d) (Ok (Onward (with_slot c d (ListOf t))))
 
 -- what a node of the list type with number t costs, and gives back
 abbrev pub node_cost : List NodeType → ℕ → ℕ
 node_cost ts t = 1 + (type_record ts t).amount
 
 -- Cons uses a head and a tail, pays for the node, and binds d as the list type t
-abbrev pub find_cons : List NodeType → Account → ℕ → ℕ → ℕ → ℕ → Finding
+abbrev pub find_cons : List NodeType → Account → ℕ → ℕ → ℕ → ℕ → Result Finding Cause
 find_cons ts c d t h l =
     need EmptySlot (both (is_filled (slot_at c h)) (is_filled (slot_at (after_use c h) l)))
     (need WrongType (both (slot_covers ts (slot_at c h) (type_record ts t).element) (slot_covers ts (slot_at (after_use c h) l) t))
     (need BadBinding (may_bind (after_use (after_use c h) l) d)
     (need BalanceTooSmall (nat_le (node_cost ts t) c.balance)
-    (Onward (with_slot (with_balance (after_use (after_use c h) l) (c.balance - node_cost ts t)) d (ListOf t))))))
+    (Ok (Onward (with_slot (with_balance (after_use (after_use c h) l) (c.balance - node_cost ts t)) d (ListOf t)))))))
 
 -- a call of g with these slots
-abbrev pub find_call : List NodeType → Signature → Account → ℕ → List ℕ → Finding
+abbrev pub find_call : List NodeType → Signature → Account → ℕ → List ℕ → Result Finding Cause
 find_call ts g c d is =
     need EmptySlot (all_filled c is)
     (need WrongType (all_cover ts c is (take g.count g.params))
     (need BadBinding (may_bind (after_uses c is) d)
     (need BalanceTooSmall (nat_le g.entry c.balance)
-    (Onward (with_slot (with_balance (after_uses c is) (c.balance - g.entry + g.remainder)) d (slot_of g.result))))))
+    (Ok (Onward (with_slot (with_balance (after_uses c is) (c.balance - g.entry + g.remainder)) d (slot_of g.result)))))))
 
 -- the end of a branch of g
-abbrev pub find_return : List NodeType → Signature → Account → ℕ → Finding
+abbrev pub find_return : List NodeType → Signature → Account → ℕ → Result Finding Cause
 find_return ts g c a =
     need EmptySlot (is_filled (slot_at c a))
     (need WrongType (slot_covers ts (slot_at c a) g.result)
     (need ListLeft (not (any_list (after_use c a).slots))
-    (need BalanceTooSmall (nat_le g.remainder c.balance) Ends)))
+    (need BalanceTooSmall (nat_le g.remainder c.balance) (Ok Ends))))
 
 -- a Match whose list stood in a slot of this sort; c is the account after its use
-abbrev pub find_opened : List NodeType → Slot → Account → ℕ → ℕ → ℕ → Finding
-find_opened ts Vacant c h l second = Broken EmptySlot
-find_opened ts Number c h l second = Broken WrongType
+abbrev pub find_opened : List NodeType → Slot → Account → ℕ → ℕ → ℕ → Result Finding Cause
+find_opened ts Vacant c h l second = Err EmptySlot
+find_opened ts Number c h l second = Err WrongType
 find_opened ts (ListOf t) c h l second =
     need BadBinding (both (not (h == l)) (both (may_bind c h) (may_bind c l)))
-    (Forks c second (with_slot (with_slot (with_balance c (c.balance + node_cost ts t)) h (slot_of (type_record ts t).element)) l (ListOf t)))
+    (Ok (Forks c second (with_slot (with_slot (with_balance c (c.balance + node_cost ts t)) h (slot_of (type_record ts t).element)) l (ListOf t))))
 
 -- If uses a Number, and both branches start alike
-abbrev pub find_if : List NodeType → Account → ℕ → ℕ → Finding
+abbrev pub find_if : List NodeType → Account → ℕ → ℕ → Result Finding Cause
 find_if ts c a second =
-    need EmptySlot (is_filled (slot_at c a)) (need WrongType (slot_covers ts (slot_at c a) 0) (Forks (after_use c a) second (after_use c a)))
+    need EmptySlot (is_filled (slot_at c a)) (need WrongType (slot_covers ts (slot_at c a) 0) (Ok (Forks (after_use c a) second (after_use c a))))
 
 -- a step whose fields are right, in a body of g
-abbrev pub find_step : Tables → Signature → Account → Action → Finding
+abbrev pub find_step : Tables → Signature → Account → Action → Result Finding Cause
 find_step t g c (Const d n) = find_const c d
 find_step t g c (Arith d op a b) = find_arith t.types c d a b
 find_step t g c (Empty d u) = find_empty c d u
@@ -115,5 +111,5 @@ find_step t g c (Match a h l second) = find_opened t.types (slot_at c a) (after_
 find_step t g c (If a second) = find_if t.types c a second
 
 -- what the check finds of a step, in a body of g, where so many second branches wait
-abbrev pub finding : Tables → Signature → ℕ → Account → Action → Finding
+abbrev pub finding : Tables → Signature → ℕ → Account → Action → Result Finding Cause
 finding t g waiting c s = need TooManyWaiting (has_room waiting s) (need BadField (fields_right t s) (find_step t g c s))

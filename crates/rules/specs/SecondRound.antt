@@ -1,5 +1,5 @@
 -- The second round: types and function records are read into tables. Rests on the row of records and on tests.
-use Rattle.std.specs.Prelude.{ℕ, ◌+◌, Bool, true, cond, List, [], ◌∷◌, ◌++◌, length, Some, None, Ok, Err, Option, Result, ◌==◌, nat_le, nat_lt}
+use Rattle.std.specs.Prelude.{ℕ, ◌+◌, Bool, true, cond, List, [], ◌∷◌, ◌++◌, length, Ok, Err, Result, ◌==◌, nat_le, nat_lt}
 use Rattle.records.specs.declared.faults.Cause.{Cause}
 use Rattle.records.specs.declared.faults.Cause.TheVariants.{OutOfOrder, NoFunction, TooMany, ElementNotLower, BadSignature, BadResult}
 use Rattle.records.specs.declared.faults.Fault.{Fault}
@@ -10,22 +10,18 @@ use Rattle.records.specs.Rows.{Row, next, end, broken}
 use Rattle.rules.specs.Limits.{type_limit, function_limit, parameter_limit}
 use Rattle.rules.specs.Types.{type_record}
 use Rattle.rules.specs.Programs.{Tables}
-use Rattle.rules.specs.Tests.{both, padded, is_list_type}
+use Rattle.rules.specs.Tests.{need, both, padded, is_list_type}
 
 -- an answer that refuses, with its place
 abbrev pub fault : {A : Type 0} → Cause → ℕ → Result A Fault
 fault cause place = Err (record { cause = cause; place = place })
 
--- the first test that fails names the cause
-abbrev pub unless : Bool → Cause → Option Cause → Option Cause
-unless test cause rest = cond test rest (Some cause)
-
 -- what is wrong with a type record behind these tables
-abbrev pub type_fault : Tables → NodeType → Option Cause
+abbrev pub type_fault : Tables → NodeType → Result (Unit {0}) Cause
 type_fault t x =
-    unless (length t.functions == 0) OutOfOrder
-    (unless (nat_lt (length t.types) type_limit) TooMany
-    (unless (nat_le x.element (length t.types)) ElementNotLower None))
+    need OutOfOrder (length t.functions == 0)
+    (need TooMany (nat_lt (length t.types) type_limit)
+    (need ElementNotLower (nat_le x.element (length t.types)) (Ok tt)))
 
 -- whether a function record fits so many types
 abbrev pub signature_right : ℕ → Signature → Bool
@@ -36,15 +32,15 @@ abbrev pub numbers_listed : List NodeType → ℕ → Bool
 numbers_listed ts t = both (is_list_type ts t) ((type_record ts t).element == 0)
 
 -- what is wrong with a function record behind these tables
-abbrev pub function_fault : Tables → Signature → Option Cause
+abbrev pub function_fault : Tables → Signature → Result (Unit {0}) Cause
 function_fault t g =
-    unless (nat_lt (length t.functions) function_limit) TooMany
-    (unless (signature_right (length t.types) g) BadSignature
-    (unless (cond (length t.functions == 0) (numbers_listed t.types g.result) true) BadResult None))
+    need TooMany (nat_lt (length t.functions) function_limit)
+    (need BadSignature (signature_right (length t.types) g)
+    (need BadResult (cond (length t.functions == 0) (numbers_listed t.types g.result) true) (Ok tt)))
 
 -- what is wrong with a step behind these tables
-abbrev pub step_fault : Tables → Option Cause
-step_fault t = unless (nat_lt 0 (length t.functions)) OutOfOrder None
+abbrev pub step_fault : Tables → Result (Unit {0}) Cause
+step_fault t = need OutOfOrder (nat_lt 0 (length t.functions)) (Ok tt)
 
 -- the tables with one entry more
 abbrev pub with_type : Tables → NodeType → Tables
@@ -59,9 +55,9 @@ abbrev pub no_tables : Tables
 no_tables = record { types = []; functions = [] }
 
 -- what follows, unless there is a fault here
-abbrev pub go_on : Option Cause → ℕ → Result Tables Fault → Result Tables Fault
-go_on (Some cause) place rest = fault cause place
-go_on None place rest = rest
+abbrev pub go_on : Result (Unit {0}) Cause → ℕ → Result Tables Fault → Result Tables Fault
+go_on (Err cause) place rest = fault cause place
+go_on (Ok u) place rest = rest
 
 -- the tables that a row of records adds to these, or the first fault
 abbrev pub gathered : Row → Tables → Result Tables Fault

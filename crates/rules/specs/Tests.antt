@@ -1,8 +1,13 @@
--- Tests on types and fields, as the check makes them. Rests on types.
-use Rattle.std.specs.Prelude.{ℕ, zero, suc, Bool, true, false, cond, List, [], ◌∷◌, length, ◌==◌, nat_le, nat_lt}
+-- Tests on types and fields, as the check makes them. Rests on types and causes.
+use Rattle.std.specs.Prelude.{ℕ, zero, suc, Bool, true, false, cond, List, [], ◌∷◌, length, Err, Result, ◌==◌, nat_le, nat_lt}
+use Rattle.records.specs.declared.faults.Cause.{Cause}
 use Rattle.records.specs.declared.kinds.NodeType.{NodeType}
 use Rattle.rules.specs.Limits.{unused}
 use Rattle.rules.specs.Types.{Ty, number, list}
+
+-- a test that has to hold before what follows; where it fails, this is the cause
+abbrev pub need : {A : Type 0} → Cause → Bool → Result A Cause → Result A Cause
+need cause test rest = cond test rest (Err cause)
 
 -- whether both tests hold
 abbrev pub both : Bool → Bool → Bool

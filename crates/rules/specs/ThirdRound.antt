@@ -1,5 +1,6 @@
 -- The third round: the bodies, in the order of the sheet. Rests on what is found of one step.
 use Rattle.std.specs.Prelude.{ℕ, ◌+◌, cond, List, [], ◌∷◌, length, Ok, Err, Result, ◌==◌}
+use Rattle.records.specs.declared.faults.Cause.{Cause}
 use Rattle.records.specs.declared.faults.Cause.TheVariants.{BodyEnd, WrongSecond}
 use Rattle.records.specs.declared.faults.Fault.{Fault}
 use Rattle.records.specs.declared.kinds.Signature.{Signature}
@@ -9,7 +10,7 @@ use Rattle.records.specs.Rows.{Row, next, end, broken}
 use Rattle.rules.specs.declared.accounts.Account.{Account}
 use Rattle.rules.specs.declared.accounts.Waiting.{Waiting}
 use Rattle.rules.specs.declared.findings.Finding.{Finding}
-use Rattle.rules.specs.declared.findings.Finding.TheVariants.{Broken, Onward, Forks, Ends}
+use Rattle.rules.specs.declared.findings.Finding.TheVariants.{Onward, Forks, Ends}
 use Rattle.rules.specs.Programs.{Tables}
 use Rattle.rules.specs.Accounts.{opening}
 use Rattle.rules.specs.Findings.{finding}
@@ -35,11 +36,11 @@ branch_ended g [] at go_on = go_on between
 branch_ended g (w ∷ ws) at go_on = cond (w.second == at) (go_on (within g w.account ws)) (fault WrongSecond w.place)
 
 -- how the round goes on behind a step at this place, which ends at that offset
-abbrev pub passed : Finding → Signature → ℕ → ℕ → List Waiting → (Stage → Answer) → Answer
-passed (Broken cause) g place at ws go_on = fault cause place
-passed (Onward c) g place at ws go_on = go_on (within g c ws)
-passed (Forks first second later) g place at ws go_on = go_on (within g first (waits place second later ∷ ws))
-passed Ends g place at ws go_on = branch_ended g ws at go_on
+abbrev pub passed : Result Finding Cause → Signature → ℕ → ℕ → List Waiting → (Stage → Answer) → Answer
+passed (Err cause) g place at ws go_on = fault cause place
+passed (Ok (Onward c)) g place at ws go_on = go_on (within g c ws)
+passed (Ok (Forks first second later)) g place at ws go_on = go_on (within g first (waits place second later ∷ ws))
+passed (Ok Ends) g place at ws go_on = branch_ended g ws at go_on
 
 -- the first fault of a row of records from this stage on; a type record in a body is for the second round to refuse
 abbrev pub bodies_pass : Tables → Row → Stage → Answer

@@ -1,10 +1,8 @@
-// What the check finds of one step.
+// What the check finds of one step that breaks no rule.
 use crate::accounts::Account;
-use records::Cause;
 
-#[derive(Clone, Copy)]
+#[derive(Clone, Copy, Debug, PartialEq, Eq)]
 pub enum Finding {
-    Broken(Cause),
     // The branch goes on with this account.
     Onward(Account),
     // The first branch goes on behind the step, and the second is said to start at this offset.

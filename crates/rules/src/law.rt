@@ -2,8 +2,6 @@
 ghost use Rattle.rules.specs.Law.{CheckAcceptsWhatTheRulesDerive};
 
 // The verdict accepts a sheet, with its tables, exactly when it has the form with these tables and every function derives.
-pub fn check_accepts_what_the_rules_derive() -> u8
+pub fn check_accepts_what_the_rules_derive()
     ensures { CheckAcceptsWhatTheRulesDerive }
-{
-    0
-}
+{}

@@ -1,6 +1,6 @@
 pub mod Held
 pub mod Growth
-pub mod Stacked
+pub mod Branches
 pub mod Invariant
 pub mod Sheets
 pub mod Checked

@@ -1,5 +1,5 @@
 -- What a sheet that has passed the check holds: its bytes and its tables.
-use Rattle.std.specs.Prelude.{ℕ, cond, List, length, take, Some, None, Option, nat_lt, slice_index_or}
+use Rattle.std.specs.Prelude.{ℕ, cond, List, length, Some, None, Option, nat_lt, slice_index_or}
 use Rattle.records.specs.declared.kinds.NodeType.{NodeType}
 use Rattle.rules.specs.declared.functions.FunctionEntry.{FunctionEntry}
 use Rattle.rules.specs.Types.{type_record}
@@ -10,7 +10,7 @@ use Rattle.sheet.specs.Held.{tables_of}
 
 -- the bytes that were checked
 abbrev pub bytes_of : Sheet → List ℕ
-bytes_of s = take s.len s.bytes
+bytes_of s = s.bytes.items
 
 -- their tables
 abbrev pub sheet_tables : Sheet → Tables

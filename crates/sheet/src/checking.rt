@@ -1,15 +1,15 @@
 // The check of a sheet.
-ghost use Rattle.std.specs.Prelude.{◌≡◌, ◌≤◌, length, take};
-ghost use Rattle.rules.specs.Limits.{byte_limit};
+ghost use Rattle.std.specs.Prelude.{◌≡◌};
 ghost use Rattle.rules.specs.Verdict.{verdict as verdict_on};
 ghost use Rattle.sheet.specs.Checked.{AcceptsExactly, Copies, answered};
-ghost use Rattle.sheet.specs.Held.{SizedAnswer, held};
+ghost use Rattle.sheet.specs.Held.{held};
 
 use crate::gathering::second_round;
 use crate::passed::Sheet;
 use crate::rounds::third_round;
 use crate::tables::Tables;
-use records::{Fault, SHEET_LIMIT, first_round};
+use arrayvec::ArrayVec;
+use records::{Fault, first_round};
 
 // Any bytes: the sheet, or the first fault. The bytes are accepted exactly when they have the form of a sheet, within the
 // limits, and the rules derive every function at its stated amounts.
@@ -21,39 +21,26 @@ pub fn check(bytes: &[u8]) -> Result<Sheet, Fault>
     made(bytes)
 }
 
-// The sheet of bytes that pass the three rounds.
+// The sheet of bytes that pass the three rounds; `check` adds what its answer means for the bytes, once for all its exits.
 fn made(bytes: &[u8]) -> Result<Sheet, Fault>
     ensures verdict { answered result ≡ verdict_on bytes.now }
     ensures copies { Copies bytes.now result }
 {
     let tables = three_rounds(bytes)?;
-    let copy = copied(bytes);
+    // the first round refuses more bytes than fit
+    let copy = ArrayVec::try_from(bytes).unwrap();
     Ok(Sheet {
         bytes: copy,
-        len: bytes.len(),
         tables,
     })
 }
 
 // Each round is for a sheet that the rounds before have passed.
 fn three_rounds(bytes: &[u8]) -> Result<Tables, Fault>
-    ensures verdict { held result ≡ verdict_on bytes.now }
-    ensures sized { SizedAnswer result }
+    ensures { held result ≡ verdict_on bytes.now }
 {
-    let _counts = first_round(bytes)?;
+    first_round(bytes)?;
     let tables = second_round(bytes)?;
     third_round(&tables, bytes)?;
     Ok(tables)
-}
-
-// The bytes at the front of an array of the greatest size.
-fn copied(bytes: &[u8]) -> [u8; SHEET_LIMIT]
-    requires short { length bytes.now ≤ byte_limit }
-    ensures same { take (length bytes.now) result ≡ bytes.now }
-{
-    let mut copy = [0; SHEET_LIMIT];
-    for (i, b) in bytes.iter().enumerate() {
-        copy[i] = *b;
-    }
-    copy
 }

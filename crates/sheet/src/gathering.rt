@@ -1,162 +1,120 @@
 // The second round: types and function records are read into the tables.
-ghost use Rattle.std.specs.Prelude.{◌≡◌, ◌-◌, None};
+ghost use Rattle.std.specs.Prelude.{◌≡◌, ◌-◌, length, Ok};
 ghost use Rattle.records.specs.Rows.{row};
 ghost use Rattle.rules.specs.SecondRound.{function_fault, gathered, no_tables, numbers_listed, signature_right, step_fault, type_fault, with_function, with_type};
-ghost use Rattle.sheet.specs.Held.{Sized, SizedAnswer, held, tables_of, types_of};
+ghost use Rattle.sheet.specs.Held.{held, tables_of, types_of};
 
 use crate::tables::Tables;
 use crate::types::padded;
+use arrayvec::ArrayVec;
 use records::{Cause, Fault, NodeType, Reader, Record, Signature};
-use rules::{FUNCTIONS, FunctionEntry, TYPES};
+use rules::FunctionEntry;
 
 // The most parameters of a function.
 const PARAMETERS: u8 = 4;
 
 impl Tables {
+    // No derived Default: the type has ghost fields.
     fn none() -> Self
-        ensures { (result.listed ≡ 0) × (result.defined ≡ 0) }
+        ensures { tables_of result ≡ no_tables }
     {
-        let signature = Signature {
-            count: 0,
-            params: [0; 4],
-            result: 0,
-            entry: 0,
-            remainder: 0,
-        };
         Tables {
-            types: [NodeType {
-                element: 0,
-                amount: 0,
-            }; TYPES],
-            listed: 0,
-            functions: [FunctionEntry { signature, body: 0 }; FUNCTIONS],
-            defined: 0,
+            types: ArrayVec::new(),
+            functions: ArrayVec::new(),
         }
     }
 
-    fn type_fault(&self, x: NodeType) -> Option<Cause>
-        requires sized { Sized self.now }
+    fn check_type(&self, x: NodeType) -> Result<(), Cause>
         ensures { result ≡ type_fault (tables_of self.now) x }
     {
-        if self.defined != 0 {
-            return Some(Cause::OutOfOrder);
+        if !self.functions.is_empty() {
+            return Err(Cause::OutOfOrder);
         }
-        if self.listed >= TYPES {
-            return Some(Cause::TooMany);
+        if self.types.is_full() {
+            return Err(Cause::TooMany);
         }
-        if x.element as usize > self.listed {
-            return Some(Cause::ElementNotLower);
+        if x.element as usize > self.types.len() {
+            return Err(Cause::ElementNotLower);
         }
-        None
+        Ok(())
     }
 
     fn signature_right(&self, g: &Signature) -> bool
-        requires sized { Sized self.now }
-        ensures { result ≡ signature_right self.now.listed g.now }
+        ensures { result ≡ signature_right (length (types_of self.now)) g.now }
     {
-        if g.count > PARAMETERS {
-            return false;
-        }
-        if !padded(self.listed as u8 + 1, g.count, &g.params) {
-            return false;
-        }
-        g.result as usize <= self.listed
+        g.count <= PARAMETERS
+            && padded(self.types.len() as u8 + 1, g.count, &g.params)
+            && g.result as usize <= self.types.len()
     }
 
     // Whether t numbers a list of Number.
     fn numbers_listed(&self, t: u8) -> bool
-        requires sized { Sized self.now }
         ensures { result ≡ numbers_listed (types_of self.now) t }
     {
-        if !self.is_list_type(t) {
-            return false;
-        }
-        self.type_record(t).element == 0
+        self.list_type(t).is_some_and(|list| list.element == 0)
     }
 
-    fn function_fault(&self, g: &Signature) -> Option<Cause>
-        requires sized { Sized self.now }
+    fn check_function(&self, g: &Signature) -> Result<(), Cause>
         ensures { result ≡ function_fault (tables_of self.now) g.now }
     {
-        if self.defined >= FUNCTIONS {
-            return Some(Cause::TooMany);
+        if self.functions.is_full() {
+            return Err(Cause::TooMany);
         }
         if !self.signature_right(g) {
-            return Some(Cause::BadSignature);
+            return Err(Cause::BadSignature);
         }
-        if self.defined == 0 && !self.numbers_listed(g.result) {
-            return Some(Cause::BadResult);
+        if self.functions.is_empty() && !self.numbers_listed(g.result) {
+            return Err(Cause::BadResult);
         }
-        None
+        Ok(())
     }
 
-    fn step_fault(&self) -> Option<Cause>
-        requires sized { Sized self.now }
+    fn check_step(&self) -> Result<(), Cause>
         ensures { result ≡ step_fault (tables_of self.now) }
     {
-        if self.defined == 0 {
-            return Some(Cause::OutOfOrder);
+        if self.functions.is_empty() {
+            return Err(Cause::OutOfOrder);
         }
-        None
+        Ok(())
     }
 
     fn add_type(&mut self, x: NodeType)
-        requires sized { Sized self.old }
-        requires fine { None ≡ type_fault (tables_of self.old) x }
-        ensures tables { tables_of self.new ≡ with_type (tables_of self.old) x }
-        ensures sized { Sized self.new }
+        requires fine { Ok tt ≡ type_fault (tables_of self.old) x }
+        ensures { tables_of self.new ≡ with_type (tables_of self.old) x }
     {
-        self.types[self.listed] = x;
-        self.listed += 1;
+        self.types.push(x);
     }
 
     fn add_function(&mut self, signature: Signature, body: usize)
-        requires sized { Sized self.old }
-        requires fine { None ≡ function_fault (tables_of self.old) signature }
-        ensures tables { tables_of self.new ≡ with_function (tables_of self.old) signature body }
-        ensures sized { Sized self.new }
+        requires fine { Ok tt ≡ function_fault (tables_of self.old) signature }
+        ensures { tables_of self.new ≡ with_function (tables_of self.old) signature body }
     {
-        self.functions[self.defined] = FunctionEntry { signature, body };
-        self.defined += 1;
+        self.functions.push(FunctionEntry { signature, body });
     }
 }
 
 // The tables of a sheet that has passed the first round, or the first fault.
 pub(crate) fn second_round(bytes: &[u8]) -> Result<Tables, Fault>
-    ensures answer { held result ≡ gathered (row bytes.now 0) no_tables }
-    ensures sized { SizedAnswer result }
+    ensures { held result ≡ gathered (row bytes.now 0) no_tables }
 {
     let mut reader = Reader::new(bytes);
     let mut tables = Tables::none();
+    // No `while let`: the place is taken before each record, and the end is judged at its place like a record.
     'records: loop {
         let place = reader.place();
-        let Some(record) = reader.next()? else {
-            if tables.defined == 0 {
-                return Err(Fault {
-                    cause: Cause::NoFunction,
-                    place,
-                });
-            }
-            return Ok(tables);
-        };
-        match record {
-            Record::ListType(x) => {
-                if let Some(cause) = tables.type_fault(x) {
-                    return Err(Fault { cause, place });
-                }
+        let at_place = |cause| Fault { cause, place };
+        match reader.next()? {
+            Some(Record::ListType(x)) => {
+                tables.check_type(x).map_err(at_place)?;
                 tables.add_type(x);
             }
-            Record::Function(g) => {
-                if let Some(cause) = tables.function_fault(&g) {
-                    return Err(Fault { cause, place });
-                }
+            Some(Record::Function(g)) => {
+                tables.check_function(&g).map_err(at_place)?;
                 tables.add_function(g, reader.place());
             }
-            Record::Step(_) => {
-                if let Some(cause) = tables.step_fault() {
-                    return Err(Fault { cause, place });
-                }
-            }
+            Some(Record::Step(_)) => tables.check_step().map_err(at_place)?,
+            None if tables.functions.is_empty() => return Err(at_place(Cause::NoFunction)),
+            None => return Ok(tables),
         }
     }
 }

@@ -14,41 +14,49 @@ impl Sheet {
     pub fn bytes(&self) -> &[u8]
         ensures { result.now ≡ bytes_of self.now }
     {
-        &self.bytes[0..self.len]
+        self.bytes.as_slice()
+    }
+
+    // Its list types, in the order of their numbers, which begin with 1.
+    pub fn types(&self) -> &[NodeType]
+        ensures { result.now ≡ (sheet_tables self.now).types }
+    {
+        self.tables.types.as_slice()
     }
 
     // How many list types it has; they are numbered from 1.
     pub fn type_count(&self) -> usize
         ensures { result ≡ length (sheet_tables self.now).types }
     {
-        self.tables.listed
+        self.tables.types.len()
     }
 
     // The list type with this number; None for 0, which is Number, and for a number that no type has.
     pub fn list_type(&self, t: u8) -> Option<NodeType>
         ensures { result ≡ list_type_at (sheet_tables self.now).types t }
     {
-        if t == 0 || t as usize > self.tables.listed {
-            return None;
-        }
-        Some(self.tables.types[t as usize - 1])
+        self.tables.list_type(t)
+    }
+
+    // Its functions, in the order of their numbers, which begin with 0.
+    pub fn functions(&self) -> &[FunctionEntry]
+        ensures { result.now ≡ (sheet_tables self.now).functions }
+    {
+        self.tables.functions.as_slice()
     }
 
     // How many functions it has; they are numbered from 0.
     pub fn function_count(&self) -> usize
         ensures { result ≡ length (sheet_tables self.now).functions }
     {
-        self.tables.defined
+        self.tables.functions.len()
     }
 
     // The function with this number.
     pub fn function(&self, f: u8) -> Option<FunctionEntry>
         ensures { result ≡ function_at (sheet_tables self.now).functions f }
     {
-        if f as usize >= self.tables.defined {
-            return None;
-        }
-        Some(self.tables.functions[f as usize])
+        self.tables.function(f)
     }
 
     // The step at an offset that a derivation reaches. That a step stands there is known, so there is no other answer.
@@ -67,11 +75,8 @@ fn first_step(bytes: &[u8]) -> Step
     ensures { fetch bytes.now 0 ≡ Some (AStep result) }
 {
     let mut reader = Reader::new(bytes);
-    match reader.next() {
-        Ok(Some(Record::Step(step))) => step,
-        Ok(Some(Record::ListType(_))) => unreachable(),
-        Ok(Some(Record::Function(_))) => unreachable(),
-        Ok(None) => unreachable(),
-        Err(_) => unreachable(),
-    }
+    let Ok(Some(Record::Step(step))) = reader.next() else {
+        unreachable!()
+    };
+    step
 }

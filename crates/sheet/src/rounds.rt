@@ -3,22 +3,22 @@ ghost use Rattle.std.specs.Prelude.{◌≡◌, ◌≤◌, length};
 ghost use Rattle.records.specs.Rows.{row};
 ghost use Rattle.rules.specs.Limits.{byte_limit};
 ghost use Rattle.rules.specs.ThirdRound.{between, bodies_pass};
-ghost use Rattle.sheet.specs.Held.{Sized, tables_of};
+ghost use Rattle.sheet.specs.Held.{tables_of};
 
-use crate::findings::finding_of;
-use crate::stack::Stack;
+use crate::branch::Branch;
 use crate::starting::opening;
 use crate::tables::Tables;
+use arrayvec::ArrayVec;
 use records::{Cause, Fault, Reader, Record};
-use rules::{Finding, Waiting};
+use rules::{Finding, WAITING, Waiting};
 
 // Whether every body of a sheet that has passed the rounds before is right, or the first fault.
 pub(crate) fn third_round(tables: &Tables, bytes: &[u8]) -> Result<(), Fault>
-    requires sized { Sized tables.now }
     requires short { length bytes.now ≤ byte_limit }
     ensures { result ≡ bodies_pass (tables_of tables.now) (row bytes.now 0) between }
 {
     let mut reader = Reader::new(bytes);
+    // No index is counted. A body ends where its last branch does, in the midst of records, so each loop is left from inside.
     'bodies: loop {
         let begins = reader.place();
         let Some(first) = reader.next()? else {
@@ -33,24 +33,22 @@ pub(crate) fn third_round(tables: &Tables, bytes: &[u8]) -> Result<(), Fault>
             Record::Function(function) => function,
         };
         let mut account = opening(&function);
-        let mut stack = Stack::new(account);
+        // the second branches that wait, the newest last
+        let mut stack = ArrayVec::<Waiting, WAITING>::new();
         'branches: loop {
             'records: loop {
                 let place = reader.place();
-                let Some(record) = reader.next()? else {
-                    return Err(Fault {
-                        cause: Cause::BodyEnd,
-                        place,
-                    });
+                let at_place = |cause| Fault { cause, place };
+                let Some(Record::Step(step)) = reader.next()? else {
+                    return Err(at_place(Cause::BodyEnd));
                 };
-                let Record::Step(step) = record else {
-                    return Err(Fault {
-                        cause: Cause::BodyEnd,
-                        place,
-                    });
+                let branch = Branch {
+                    tables,
+                    function: &function,
+                    waiting: stack.len(),
+                    account,
                 };
-                match finding_of(tables, &function, stack.count, account, step) {
-                    Finding::Broken(cause) => return Err(Fault { cause, place }),
+                match branch.finding_of(step).map_err(at_place)? {
                     Finding::Onward(changed) => account = changed,
                     Finding::Forks {
                         first,

@@ -1,60 +1,48 @@
-// Types by their numbers: the table's records, covering, and the fields that name types or slots.
-ghost use Rattle.std.specs.Prelude.{◌≡◌, ◌-◌, cond, ◌==◌, nat_lt};
+// Types and functions by their numbers: the tables' records, covering, and the fields that name types or slots.
+ghost use Rattle.std.specs.Prelude.{◌≡◌, ◌-◌, ◌==◌, nat_lt};
+ghost use Rattle.std.specs.List.{list_all};
 ghost use Rattle.rules.specs.Accounts.{slot_covers, slot_of as slot_with};
-ghost use Rattle.rules.specs.Tests.{covers, is_list_type, padded as all_padded};
+ghost use Rattle.rules.specs.Tests.{covers, padded as all_padded};
 ghost use Rattle.rules.specs.Types.{type_of, type_record as record_of};
-ghost use Rattle.sheet.specs.Held.{Sized, types_of};
+ghost use Rattle.sheet.specs.Held.{functions_of, types_of};
+ghost use Rattle.sheet.specs.Sheets.{function_at, list_type_at};
 
 use crate::tables::Tables;
-use records::NodeType;
-use rules::Slot;
-
-// What stands in a field for a parameter type or a slot that is not used.
-const UNUSED: u8 = 0xFF;
+use records::{NodeType, UNUSED};
+use rules::{FunctionEntry, Slot};
 
 impl Tables {
+    // The list type with this number; None for 0, which is Number, and for a number that no type has.
+    pub(crate) fn list_type(&self, t: u8) -> Option<NodeType>
+        ensures { result ≡ list_type_at (types_of self.now) t }
+    {
+        let place = t.checked_sub(1)?;
+        self.types.get(place as usize).copied()
+    }
+
+    // The function with this number.
+    pub(crate) fn function(&self, f: u8) -> Option<FunctionEntry>
+        ensures { result ≡ function_at (functions_of self.now) f }
+    {
+        self.functions.get(usize::from(f)).copied()
+    }
+
     // The record of type number t; a number without one stands for a list of Number of amount 0.
     pub(crate) fn type_record(&self, t: u8) -> NodeType
-        requires sized { Sized self.now }
         ensures { result ≡ record_of (types_of self.now) t }
     {
-        if t == 0 {
-            return NodeType {
-                element: 0,
-                amount: 0,
-            };
-        }
-        if t as usize > self.listed {
-            return NodeType {
-                element: 0,
-                amount: 0,
-            };
-        }
-        self.types[t as usize - 1]
+        self.list_type(t).unwrap_or_default()
     }
 
-    // Whether t numbers a list type.
-    pub(crate) fn is_list_type(&self, t: u8) -> bool
-        requires sized { Sized self.now }
-        ensures { result ≡ is_list_type (types_of self.now) t }
-    {
-        0 < t && t as usize <= self.listed
-    }
-
-    // Whether the type numbered s covers the one numbered t. Element numbers fall, so the walk ends.
-    pub(crate) fn covers(&self, s: u8, t: u8) -> bool
-        requires sized { Sized self.now }
+    // Whether the type numbered s covers the one numbered t. Two walks at once along element types, until either ends; element
+    // numbers fall, so one does.
+    fn covers(&self, s: u8, t: u8) -> bool
         ensures { result ≡ covers (type_of (types_of self.now) s) (type_of (types_of self.now) t) }
     {
         let mut upper = s;
         let mut lower = t;
-        'elements: loop {
-            if upper == 0 {
-                return lower == 0;
-            }
-            if lower == 0 {
-                return false;
-            }
+        // no index is counted: both sides go on to what they find
+        'elements: while upper != 0 && lower != 0 {
             let a = self.type_record(upper);
             let b = self.type_record(lower);
             if a.amount < b.amount {
@@ -63,32 +51,27 @@ impl Tables {
             upper = a.element;
             lower = b.element;
         }
+        upper == 0 && lower == 0
     }
 
     // Whether the slot has a type that covers the type numbered t.
     pub(crate) fn slot_covers(&self, slot: Slot, t: u8) -> bool
-        requires sized { Sized self.now }
         ensures { result ≡ slot_covers (types_of self.now) slot t }
     {
         match slot {
             Slot::Vacant => false,
             Slot::Number => t == 0,
+            Slot::ListOf(_) if t == 0 => false,
             Slot::ListOf(s) => {
-                if t == 0 {
-                    return false;
-                }
                 let own = self.type_record(s);
                 let wanted = self.type_record(t);
-                if own.amount < wanted.amount {
-                    return false;
-                }
-                self.covers(own.element, wanted.element)
+                own.amount >= wanted.amount && self.covers(own.element, wanted.element)
             }
         }
     }
 }
 
-// A slot that has the type numbered t.
+// A slot that has the type numbered t. No From, which would say that any byte is a slot.
 pub(crate) fn slot_of(t: u8) -> Slot
     ensures { result ≡ slot_with t }
 {
@@ -99,22 +82,25 @@ pub(crate) fn slot_of(t: u8) -> Slot
     }
 }
 
-fn field_right(is_used: bool, x: u8, limit: u8) -> bool
-    ensures { result ≡ cond is_used (nat_lt x limit) (x == 255) }
+// One function for each of two tests, and none that takes the test: so each answers a definition by its name.
+fn all_below(limit: u8, fields: &[u8]) -> bool
+    ensures { result ≡ list_all (λ x. nat_lt x limit) fields.now }
 {
-    if is_used { x < limit } else { x == UNUSED }
+    fields.iter().all(|&x| x < limit)
+}
+
+fn all_unused(fields: &[u8]) -> bool
+    ensures { result ≡ list_all (λ x. x == 255) fields.now }
+{
+    fields.iter().all(|&x| x == UNUSED)
 }
 
 // Whether of four fields the first `count` are below the limit and the others FF.
 pub(crate) fn padded(limit: u8, count: u8, fields: &[u8; 4]) -> bool
     ensures { result ≡ all_padded limit count fields.now }
 {
-    for i in 0..4 {
-        let is_used = i < count as usize;
-        let x = fields[i];
-        if !field_right(is_used, x, limit) {
-            return false;
-        }
-    }
-    count <= 4
+    let Some((used, unused)) = fields.split_at_checked(count as usize) else {
+        return false;
+    };
+    all_below(limit, used) && all_unused(unused)
 }

@@ -1,6 +1,6 @@
 // Sheets that the check accepts or refuses. A line is a name, a sheet in hexadecimal, record by record, and the answer: the
 // number and the place of the refusal, or 0 0. Most sheets begin with two types, lists of Number of the amounts 1 and 0, and
-// have function 0 at offset 8.
+// have function 0 at offset 8. Lines and no tuples: so a sheet stays one line, record by record.
 
 // right sheets
 pub(crate) const ACCEPTED: &str =

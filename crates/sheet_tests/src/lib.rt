@@ -1,4 +1,5 @@
-// Tests of the check of a sheet: tables of sheets, the limits, and what an accepted sheet tells. Rests on records and sheet.
+// Tests of the check of a sheet: tables of sheets, the limits, and what an accepted sheet tells. Rests on records,
+// sheet and label_text.
 #![tactic(auto)]
 
 #[cfg(test)]

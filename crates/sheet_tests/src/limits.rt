@@ -1,5 +1,5 @@
 // The limits of types, functions and bytes, with sheets made in a loop.
-use crate::refusals::answer;
+use crate::refusals::refusal;
 use std::alloc::Global;
 use std::test::Fail;
 
@@ -22,6 +22,7 @@ const ANSWER_EMPTY: &[u8] = b"\x32\x01\x01\x40\x01";
 // `first` so many times, and then `last`.
 fn repeated(heap: Global, first: &[u8], times: usize, last: &[u8]) -> Result<Vec<u8>, Fail> {
     let mut bytes = Vec::new(heap);
+    // a count of times, and no index
     for _ in 0..times {
         bytes.extend_from_slice(first)?;
     }
@@ -32,12 +33,12 @@ fn repeated(heap: Global, first: &[u8], times: usize, last: &[u8]) -> Result<Vec
 #[test]
 fn thirty_two_types(rt: HostRuntime) -> Result<(), Fail> {
     let most = repeated(rt.alloc(), TYPE, 32, FUNCTION)?;
-    assert_eq!(rt; answer(most.as_slice()), (0, 0));
+    assert_eq!(rt; refusal(most.as_slice()), None);
     let more = repeated(rt.alloc(), TYPE, 33, FUNCTION)?;
-    assert_eq!(rt; answer(more.as_slice()), (22, 128));
+    assert_eq!(rt; refusal(more.as_slice()), Some((22, 128)));
     // and not 23, which its element would be
     let unknown = repeated(rt.alloc(), TYPE, 32, UNKNOWN_ELEMENT)?;
-    assert_eq!(rt; answer(unknown.as_slice()), (22, 128));
+    assert_eq!(rt; refusal(unknown.as_slice()), Some((22, 128)));
     Ok(())
 }
 
@@ -45,12 +46,12 @@ fn thirty_two_types(rt: HostRuntime) -> Result<(), Fail> {
 fn thirty_two_functions(rt: HostRuntime) -> Result<(), Fail> {
     let functions = repeated(rt.alloc(), FUNCTION, 32, &[])?;
     let most = repeated(rt.alloc(), TYPE, 1, functions.as_slice())?;
-    assert_eq!(rt; answer(most.as_slice()), (0, 0));
+    assert_eq!(rt; refusal(most.as_slice()), None);
     let more = repeated(rt.alloc(), most.as_slice(), 1, FUNCTION)?;
-    assert_eq!(rt; answer(more.as_slice()), (22, 516));
+    assert_eq!(rt; refusal(more.as_slice()), Some((22, 516)));
     // and not 24, which its parameter would be
     let unknown = repeated(rt.alloc(), most.as_slice(), 1, UNKNOWN_PARAMETER)?;
-    assert_eq!(rt; answer(unknown.as_slice()), (22, 516));
+    assert_eq!(rt; refusal(unknown.as_slice()), Some((22, 516)));
     Ok(())
 }
 
@@ -61,9 +62,9 @@ fn bytes_at_most_4096(rt: HostRuntime) -> Result<(), Fail> {
     let start = repeated(rt.alloc(), head.as_slice(), 1, NUMBER_IN_0)?;
     let most = repeated(rt.alloc(), start.as_slice(), 1, body.as_slice())?;
     assert_eq!(rt; most.len(), 4096);
-    assert_eq!(rt; answer(most.as_slice()), (0, 0));
+    assert_eq!(rt; refusal(most.as_slice()), None);
     // and not 12, which the byte that is too much would be
     let more = repeated(rt.alloc(), most.as_slice(), 1, &[0x40])?;
-    assert_eq!(rt; answer(more.as_slice()), (10, 0));
+    assert_eq!(rt; refusal(more.as_slice()), Some((10, 0)));
     Ok(())
 }

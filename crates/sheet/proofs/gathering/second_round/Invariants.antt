@@ -2,12 +2,12 @@
 use Rattle.std.proofs.Common.{◌≡◌, ◌-◌, length, drop}
 use Rattle.records.specs.Rows.{row}
 use Rattle.rules.specs.SecondRound.{no_tables, gathered}
-use Rattle.sheet.specs.Held.{tables_of, Sized}
+use Rattle.sheet.specs.Held.{tables_of}
 use Rattle.sheet.proofs.gathering.second_round.Given as goal
 
 abbrev pub invariant-records : goal.invariant-records
 invariant-records l =
-    (l.reader.bytes.now ≡ l.bytes) × Sized l.tables
+    (l.reader.bytes.now ≡ l.bytes)
     × (gathered (row (drop l.reader.at l.bytes) l.reader.at) (tables_of l.tables) ≡ gathered (row l.bytes 0) no_tables)
 
 abbrev pub decreases-records : goal.decreases-records

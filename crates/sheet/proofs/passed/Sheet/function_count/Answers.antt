@@ -1,5 +1,0 @@
-use Rattle.std.proofs.Common.{sym}
-use Rattle.sheet.proofs.passed.Sheet.function_count.Goals as goal
-
-pub returns : goal.returns
-returns c = sym c.args.self.now.functions
