@@ -6,32 +6,24 @@ ghost use Rattle.plain.specs.Refusals.{ARefusedCallAltersNothing};
 
 // Whatever calls are made in whatever order: the sheet is lawful, the entries have their types, a run is funded, a result is a
 // list of Numbers, and all live nodes fit the capacity. Every call in a run keeps the same cells spare, to its end.
-pub fn a_service_stays_in_order() -> u8
+pub fn a_service_stays_in_order()
     ensures order { AServiceStaysInOrder }
     ensures spare { CallsKeepWhatIsPaid }
-{
-    0
-}
+{}
 
 // When a run has just ended, whatever calls were made before its funding and while it was on: the result is a list of Numbers,
 // and of what was free at the funding no more than the price is gone, while what the result brings along and the remainder of
 // function 0 are free beside it.
-pub fn a_run_leaves_what_was_promised() -> u8
+pub fn a_run_leaves_what_was_promised()
     ensures { ARunLeavesWhatWasPromised }
-{
-    0
-}
+{}
 
 // A refused call alters nothing, unless it is an advance that has made steps before its refusal.
-pub fn a_refused_call_alters_nothing() -> u8
+pub fn a_refused_call_alters_nothing()
     ensures { ARefusedCallAltersNothing }
-{
-    0
-}
+{}
 
 // The definitions of the service, computed on a list of small services.
-pub fn small_services_answer_as_listed() -> u8
+pub fn small_services_answer_as_listed()
     ensures { ExamplesHold }
-{
-    0
-}
+{}

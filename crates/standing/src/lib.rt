@@ -1,9 +1,11 @@
 // What the words of an engine and the cells of a store stand for: values, slots, frames, input and result of the plain service.
-// The definitions stand in specs/; here are the types that they speak of, and the theorems. Rests on cells and plain.
+// The definitions stand in specs/; here are the types that they speak of, the methods of a slot, and the theorems. Rests on cells
+// and plain.
 #![tactic(auto)]
 
 mod frames;
 mod law;
+mod slots;
 
 pub use frames::{Frame, Input, Slot};
 pub use law::{
