@@ -1,32 +1,29 @@
--- One thing more to say, and nothing more.
-use Rattle.std.proofs.Common.{◌≡◌, ℕ, zero, suc, List, [], ◌++◌, Some, None, Option, sym, refl, ap, ◌∙◌, append_assoc, append-nil}
-use Rattle.check_text.specs.Reports.{about, said_along}
+-- The tables of a sheet as lists.
+use Rattle.std.proofs.Common.{◌≡◌, ℕ, ◌+◌, ◌<◌, ◌≤◌, List, length, sym, ap, zero-add, ◌∙◌, arith}
+use Rattle.std.specs.List.{slice_get}
+use Rattle.std.proofs.lemmas.Bool.Decides.{nat_tests}
+use Rattle.std.proofs.lemmas.Grind.{common_steps}
+use Rattle.std.proofs.lemmas.Option.{gets}
+use Rattle.records.specs.declared.kinds.NodeType.{NodeType}
+use Rattle.records.specs.declared.kinds.Signature.{Signature}
+use Rattle.rules.specs.declared.functions.FunctionEntry.{FunctionEntry}
+use Rattle.sheet.specs.Sheets.{list_type_at, function_at}
+use Rattle.check_text.specs.Reports.{type_line, type_lines, function_line, function_lines, argument_line, argument_lines, parameter_at}
+use Rattle.check_text.specs.Said.{said_of}
+use Rattle.check_text.proofs.Said.{said_of_list}
 
-module _ {S X : Type 0} (entry : S → Option X) (say : S → X → List ℕ) (next : S → X → S) where
-  said_opens : (most : ℕ) (s : S) (x : X) → entry s ≡ Some x → said_along entry say next (suc most) s ≡ say s x ++ said_along entry say next most (next s x)
-  unfolding said_along
-  said_opens most s x is = ap (λ o. about o (λ y. say s y ++ said_along entry say next most (next s y))) is
+type_numbered : (ts : List NodeType) (k : ℕ) → list_type_at ts (1 + k) ≡ slice_get ts k
+type_numbered ts k = grind (arith, common_steps, gets, nat_tests)
 
-  said_over : (most : ℕ) (s : S) → entry s ≡ None → said_along entry say next most s ≡ []
-  unfolding said_along
-  said_over zero s is = refl
-  said_over (suc most) s is = ap (λ o. about o (λ y. say s y ++ said_along entry say next most (next s y))) is
+pub types_said : (ts : List NodeType) → length ts ≤ 32 → said_of type_line 1 ts ≡ type_lines ts
+types_said ts few = sym (said_of_list (list_type_at ts) type_line 32 1 ts few (λ k _. type_numbered ts k))
 
-  said_none : (s : S) → said_along entry say next 0 s ≡ []
-  unfolding said_along
-  said_none s = refl
+function_numbered : (fs : List FunctionEntry) (k : ℕ) → function_at fs (0 + k) ≡ slice_get fs k
+function_numbered fs k = grind (arith, common_steps, gets, nat_tests)
 
-  -- the text so far and what is left to say are the whole
-  module _ (text whole : List ℕ) (most : ℕ) (s : S) (is : text ++ said_along entry say next most s ≡ whole) where
-    pub entry_more : (after line : List ℕ) (left : ℕ) (then : S) (x : X) → most ≡ suc left → then ≡ next s x → entry s ≡ Some x → after ≡ text ++ line → line ≡ say s x →
-        after ++ said_along entry say next left then ≡ whole
-    entry_more after line left then x m n found pushed said =
-        ap (λ t. t ++ said_along entry say next left then) (pushed ∙ ap (λ l. text ++ l) said) ∙ ap (λ k. (text ++ say s x) ++ said_along entry say next left k) n
-        ∙ append_assoc text (say s x) (said_along entry say next left (next s x)) ∙ ap (λ l. text ++ l) (sym (said_opens left s x found))
-        ∙ ap (λ k. text ++ said_along entry say next k s) (sym m) ∙ is
+pub functions_said : (fs : List FunctionEntry) → length fs ≤ 32 → said_of function_line 0 fs ≡ function_lines fs
+functions_said fs few = sym (said_of_list (function_at fs) function_line 32 0 fs few (λ k _. function_numbered fs k))
 
-    pub entry_missing : entry s ≡ None → text ≡ whole
-    entry_missing missing = sym (append-nil text) ∙ ap (λ l. text ++ l) (sym (said_over most s missing)) ∙ is
-
-    pub table_full : most ≡ 0 → text ≡ whole
-    table_full m = sym (append-nil text) ∙ ap (λ l. text ++ l) (sym (said_none s)) ∙ ap (λ k. text ++ said_along entry say next k s) (sym m) ∙ is
+pub arguments_said : (ts : List NodeType) (g : Signature) (xs : List ℕ) → length xs ≤ 4 → ((k : ℕ) → k < 4 → slice_get xs k ≡ parameter_at g k) →
+    said_of (argument_line ts) 0 xs ≡ argument_lines ts g
+arguments_said ts g xs few each = sym (said_of_list (parameter_at g) (argument_line ts) 4 0 xs few (λ k less. ap (parameter_at g) (zero-add k) ∙ sym (each k less)))

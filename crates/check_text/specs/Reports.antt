@@ -3,6 +3,7 @@ use Rattle.std.specs.Prelude.{◌≡◌, ℕ, zero, suc, ◌+◌, cond, List, []
 use Rattle.records.specs.declared.faults.Fault.{Fault}
 use Rattle.records.specs.declared.kinds.NodeType.{NodeType}
 use Rattle.records.specs.declared.kinds.Signature.{Signature}
+use Rattle.records.specs.declared.kinds.Record.{Record}
 use Rattle.records.specs.declared.kinds.Record.TheVariants.{ListType, Function}
 use Rattle.rules.specs.declared.functions.FunctionEntry.{FunctionEntry}
 use Rattle.sheet.specs.Sheets.{list_type_at, function_at}
@@ -10,7 +11,7 @@ use Rattle.rules.specs.Programs.{Tables}
 use Rattle.rules.specs.Verdict.{verdict}
 use Rattle.label_text.specs.Words.{words}
 use Rattle.label_text.specs.Listing.{refusal_line, line_in}
-use Rattle.check_text.specs.declared.reports.Report.{Report}
+use Rattle.label_text.specs.declared.report.Report.{Report}
 
 -- a text about what is there, and none otherwise
 abbrev pub about : {X : Type 0} → Option X → (X → List ℕ) → List ℕ
@@ -25,6 +26,10 @@ said_along entry say next (suc most) s = about (entry s) (λ x. say s x ++ said_
 -- the entries of a table from a number on
 abbrev pub lines_from : {X : Type 0} → (ℕ → Option X) → (ℕ → X → List ℕ) → ℕ → ℕ → List ℕ
 lines_from entry say most i = said_along entry say (λ j _. j + 1) most i
+
+-- a record in words on a line of its own
+abbrev pub numbered_line : ℕ → Record → List ℕ
+numbered_line n r = words n r ++ codes "\n"
 
 abbrev pub type_line : ℕ → NodeType → List ℕ
 type_line t node = words t (ListType node) ++ codes "\n"

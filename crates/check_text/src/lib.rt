@@ -2,7 +2,9 @@
 // where it is not. Rests on `sheet` and `label_text`.
 #![tactic(auto)]
 
+mod asking;
 mod reports;
 mod tables;
 
-pub use reports::{Report, report_on};
+pub use label_text::Report;
+pub use reports::report_on;

@@ -3,18 +3,12 @@ ghost use Rattle.check_text.specs.Reports.{Reported, accepted_text, refused_text
 ghost use Rattle.sheet.specs.Sheets.{sheet_tables};
 ghost use Rattle.std.specs.Prelude.{◌≡◌, IfOk, string_bytes};
 
-use crate::tables::{asking_lines, function_lines, type_lines};
-use label_text::{line_at, refusal_line};
+use crate::asking::Asking;
+use crate::tables::{function_lines, type_lines};
+use label_text::{Report, line_at, refusal_line};
 use records::Fault;
 use sheet::{Sheet, check};
 use std::alloc::{AllocError, Global};
-
-// The report on a sheet, and whether it is accepted.
-#[derive(Drop)]
-pub struct Report {
-    pub text: String,
-    pub accepted: bool,
-}
 
 // The tables of an accepted sheet, or the refusal and the record at its place.
 pub fn report_on(heap: Global, bytes: &[u8]) -> Result<Report, AllocError>
@@ -35,9 +29,9 @@ pub fn report_on(heap: Global, bytes: &[u8]) -> Result<Report, AllocError>
 fn accepted_text(heap: Global, sheet: &Sheet) -> Result<String, AllocError>
     ensures { IfOk result (λ s. string_bytes s ≡ accepted_text (sheet_tables sheet.now)) }
 {
-    let types = type_lines(heap, sheet)?;
-    let functions = function_lines(heap, sheet)?;
-    let asking = asking_lines(heap, sheet)?;
+    let types = type_lines(sheet);
+    let functions = function_lines(sheet);
+    let asking = Asking(sheet);
     format!(in heap; "accepted\n{types}{functions}{asking}")
 }
 

@@ -1,106 +1,79 @@
-// The tables of an accepted sheet in words, and what function 0 asks for each node of its arguments.
-ghost use Rattle.std.specs.Prelude.{◌≡◌, ◌<◌, IfOk, string_bytes};
-ghost use Rattle.check_text.specs.Reports.{amounts, argument_line, argument_lines, asking, function_line, function_lines, type_line, type_lines};
-ghost use Rattle.sheet.specs.Sheets.{function_at, sheet_tables};
+// The tables of a sheet in words.
+ghost use Rattle.check_text.specs.Reports.{function_line, function_lines, numbered_line, type_line, type_lines};
+ghost use Rattle.check_text.specs.Said.{said_of};
+ghost use Rattle.records.specs.declared.kinds.Record.{Record as AnyRecord};
+ghost use Rattle.records.specs.declared.kinds.Record.TheVariants.{Function as OfFunction, ListType as OfType};
+ghost use Rattle.rules.specs.Limits.{type_limit};
+ghost use Rattle.sheet.specs.Sheets.{sheet_tables};
+ghost use Rattle.std.specs.Prelude.{◌≡◌, ◌≤◌, Some, length};
 
-use label_text::record_words;
-use records::{NodeType, Record, Signature};
+use label_text::Numbered;
+use records::{NodeType, Record};
 use rules::FunctionEntry;
 use sheet::Sheet;
-use std::alloc::{AllocError, Global};
+use std::fmt;
 
-// The most types, and the most functions, that a sheet has.
-const TABLE: u8 = 32;
+// What stands in a table of a sheet. It is shown as the record that it comes from.
+pub(crate) trait Entry {
+    ghost record_of: { Self → AnyRecord };
 
-pub fn type_lines(heap: Global, sheet: &Sheet) -> Result<String, AllocError>
-    ensures { IfOk result (λ s. string_bytes s ≡ type_lines (sheet_tables sheet.now).types) }
-{
-    let mut text = String::new(heap);
-    for i in 0..TABLE {
-        let Some(node) = sheet.list_type(i + 1) else {
-            return Ok(text);
-        };
-        let line = type_line(heap, i + 1, &node)?;
-        text.push_str(line.as_str())?;
+    fn record(&self) -> Record
+        ensures { result ≡ record_of self.now };
+}
+
+impl Entry for NodeType {
+    ghost record_of = { λ node. OfType node };
+
+    fn record(&self) -> Record {
+        Record::ListType(*self)
     }
-    Ok(text)
 }
 
-fn type_line(heap: Global, t: u8, node: &NodeType) -> Result<String, AllocError>
-    ensures { IfOk result (λ s. string_bytes s ≡ type_line t node.now) }
-{
-    let words = record_words(heap, t as usize, &Record::ListType(*node))?;
-    format!(in heap; "{words}\n")
-}
+impl Entry for FunctionEntry {
+    ghost record_of = { λ entry. OfFunction entry.signature };
 
-pub fn function_lines(heap: Global, sheet: &Sheet) -> Result<String, AllocError>
-    ensures { IfOk result (λ s. string_bytes s ≡ function_lines (sheet_tables sheet.now).functions) }
-{
-    let mut text = String::new(heap);
-    for i in 0..TABLE {
-        let Some(entry) = sheet.function(i) else {
-            return Ok(text);
-        };
-        let line = function_line(heap, i, &entry)?;
-        text.push_str(line.as_str())?;
+    fn record(&self) -> Record {
+        Record::Function(self.signature)
     }
-    Ok(text)
 }
 
-fn function_line(heap: Global, f: u8, entry: &FunctionEntry) -> Result<String, AllocError>
-    ensures { IfOk result (λ s. string_bytes s ≡ function_line f entry.now) }
-{
-    let words = record_words(heap, f as usize, &Record::Function(entry.signature))?;
-    format!(in heap; "{words}\n")
+// A line for each entry of a table. A sheet has no more types than this, and no more functions.
+#[derive(Drop)]
+pub(crate) struct Table<'a, T> {
+    first: u8,
+    entries: &'a [T],
+    ghost few: { length entries.now ≤ type_limit },
 }
 
-// The amounts of a type, from the outermost list in. A sheet has at most 32 types, so no type lies deeper.
-fn amount_words(heap: Global, sheet: &Sheet, of: u8) -> Result<String, AllocError>
-    ensures { IfOk result (λ s. string_bytes s ≡ amounts (sheet_tables sheet.now).types of) }
-{
-    let mut text = String::new(heap);
-    let mut t = of;
-    for _ in 0..TABLE {
-        let Some(node) = sheet.list_type(t) else {
-            return Ok(text);
-        };
-        let amount = node.amount;
-        let words = format!(in heap; " {amount}")?;
-        text.push_str(words.as_str())?;
-        t = node.element;
-    }
-    Ok(text)
-}
+impl<T: Entry> fmt::Display for Table<'_, T> {
+    ghost output = { λ x. Some (said_of (λ n e. numbered_line n (T.record_of e)) x.first x.entries.now) };
 
-fn argument_line(heap: Global, sheet: &Sheet, i: usize, t: u8) -> Result<String, AllocError>
-    ensures { IfOk result (λ s. string_bytes s ≡ argument_line (sheet_tables sheet.now).types i t) }
-{
-    let amounts = amount_words(heap, sheet, t)?;
-    format!(in heap;
-        "argument {i} of type {t} asks for each node, from the outermost list in:{amounts}\n"
-    )
-}
-
-fn argument_lines(heap: Global, sheet: &Sheet, signature: &Signature) -> Result<String, AllocError>
-    ensures { IfOk result (λ s. string_bytes s ≡ argument_lines (sheet_tables sheet.now).types signature.now) }
-{
-    let mut text = String::new(heap);
-    for i in 0..4usize {
-        if i >= signature.count as usize {
-            return Ok(text);
+    fn fmt<W: fmt::Write>(&self, f: &mut fmt::Formatter<W>) -> fmt::Result {
+        for (i, entry) in self.entries.iter().enumerate() {
+            let number = usize::from(self.first) + i;
+            let what = entry.record();
+            writeln!(f, "{}", Numbered { number, what })?;
         }
-        let line = argument_line(heap, sheet, i, signature.params[i])?;
-        text.push_str(line.as_str())?;
+        Ok(())
     }
-    Ok(text)
 }
 
-// What function 0 asks for its arguments.
-pub fn asking_lines(heap: Global, sheet: &Sheet) -> Result<String, AllocError>
-    ensures { IfOk result (λ s. string_bytes s ≡ asking (sheet_tables sheet.now).types (function_at (sheet_tables sheet.now).functions 0)) }
+// The list types, numbered from 1.
+pub(crate) fn type_lines(sheet: &Sheet) -> Table<'_, NodeType>
+    ensures { said_of type_line result.first result.entries.now ≡ type_lines (sheet_tables sheet.now).types }
 {
-    match sheet.function(0) {
-        Some(entry) => argument_lines(heap, sheet, &entry.signature),
-        None => Ok(String::new(heap)),
+    Table {
+        first: 1,
+        entries: sheet.types(),
+    }
+}
+
+// The functions, numbered from 0.
+pub(crate) fn function_lines(sheet: &Sheet) -> Table<'_, FunctionEntry>
+    ensures { said_of function_line result.first result.entries.now ≡ function_lines (sheet_tables sheet.now).functions }
+{
+    Table {
+        first: 0,
+        entries: sheet.functions(),
     }
 }

@@ -2,11 +2,12 @@
 #![tactic(auto)]
 
 use check_text::report_on;
-use label_text::{HexFault, Verb, fault_words, list, parse_hex};
-use std::alloc::AllocError;
+use label_text::{HexFault, Report, TextFault, Verb, list, parse_hex};
+use std::alloc::{AllocError, Global};
 use std::io::Read;
 use std::process::ExitCode;
 use std::{env, fs, io};
+use thiserror::Error;
 
 const USAGE: &str = "usage: label list [FILE]
        label check [FILE]
@@ -16,102 +17,101 @@ A sheet is hexadecimal text, with spaces, line ends and comments from # on.
 Without a FILE it is read from standard input.
 ";
 
-// Why the program stops: what is to be said was said, or saying it failed.
-#[derive(Drop)]
-enum Stop {
-    Said,
+// Why the program ends without its answer.
+#[derive(Debug, Drop, Error)]
+enum Stop<'a> {
+    #[error("{name}: {fault}")]
+    Misspelled { name: &'a str, fault: TextFault },
+    #[error("{name} cannot be read: {error}")]
+    Unreadable { name: &'a str, error: io::Error },
+    #[error("out of memory")]
     Memory,
-    Broken(io::Error),
+    #[error("{0}")]
+    Broken(#[from] io::Error),
 }
 
-impl From<io::Error> for Stop {
-    fn from(error: io::Error) -> Stop {
-        Stop::Broken(error)
-    }
-}
-
-impl From<AllocError> for Stop {
-    fn from(_error: AllocError) -> Stop {
+// Not by #[from], since the reading of hexadecimal text also says that memory ran out, and has no AllocError to hand on.
+impl From<AllocError> for Stop<'_> {
+    fn from(_error: AllocError) -> Self {
         Stop::Memory
     }
 }
 
 fn main(rt: HostRuntime) -> io::Result<ExitCode> {
-    match run(&rt) {
-        Ok(()) => return Ok(ExitCode::SUCCESS),
-        Err(Stop::Said) => {}
-        Err(Stop::Memory) => eprintln!(rt; "label: out of memory")?,
-        Err(Stop::Broken(error)) => eprintln!(rt; "label: {error}")?,
-    }
+    let words = match words(&rt) {
+        Ok(words) => words,
+        Err(stop) => return complain(&rt, &stop),
+    };
+    run(&rt, words.as_slice()).or_else(|stop| complain(&rt, &stop))
+}
+
+fn words(rt: &HostRuntime) -> Result<Vec<String>, Stop<'static>> {
+    Ok(env::args(rt)?.collect(rt.alloc())?)
+}
+
+fn complain(rt: &HostRuntime, stop: &Stop<'_>) -> io::Result<ExitCode> {
+    eprintln!(rt; "label: {stop}")?;
     Ok(ExitCode::FAILURE)
 }
 
-fn run(rt: &HostRuntime) -> Result<(), Stop> {
-    let words: Vec<String> = env::args(rt)?.collect(rt.alloc())?;
-    let [_, verb, rest @ ..] = words.as_slice() else {
-        return Ok(print!(rt; "{USAGE}")?);
+fn run<'a>(rt: &HostRuntime, words: &'a [String]) -> Result<ExitCode, Stop<'a>> {
+    let [_, verb, rest @ ..] = words else {
+        print!(rt; "{USAGE}")?;
+        return Ok(ExitCode::SUCCESS);
     };
     let file = match rest {
         [] => None,
         [file] => Some(file.as_str()),
         _ => return wrong_words(rt),
     };
+    // closures, since a function of another crate gets no proof where it is passed by its name
     match Verb::named(verb.as_str()) {
-        Some(Verb::List) => list_sheet(rt, file),
-        Some(Verb::Check) => check_sheet(rt, file),
+        Some(Verb::List) => tell(rt, file, |heap, bytes| list(heap, bytes)),
+        Some(Verb::Check) => tell(rt, file, |heap, bytes| report_on(heap, bytes)),
         None => wrong_words(rt),
     }
 }
 
-fn wrong_words(rt: &HostRuntime) -> Result<(), Stop> {
+fn wrong_words<'a>(rt: &HostRuntime) -> Result<ExitCode, Stop<'a>> {
     eprint!(rt; "{USAGE}")?;
-    Err(Stop::Said)
+    Ok(ExitCode::FAILURE)
 }
 
-fn list_sheet(rt: &HostRuntime, file: Option<&str>) -> Result<(), Stop> {
+// The runtime and the name of the file go through the next three together; a struct of both would only rename them.
+
+// Says of a sheet what `report` makes of its bytes. A sheet that is refused ends the program with status 1.
+fn tell<'a, F>(rt: &HostRuntime, file: Option<&'a str>, report: F) -> Result<ExitCode, Stop<'a>>
+where
+    F: FnOnce(Global, &[u8]) -> Result<Report, AllocError>,
+    requires { F.IsAlwaysCallable report }
+{
     let bytes = read_sheet(rt, file)?;
-    let listing = list(rt.alloc(), bytes.as_slice())?;
-    say(rt, listing.text.as_str(), listing.accepted)
-}
-
-fn check_sheet(rt: &HostRuntime, file: Option<&str>) -> Result<(), Stop> {
-    let bytes = read_sheet(rt, file)?;
-    let report = report_on(rt.alloc(), bytes.as_slice())?;
-    say(rt, report.text.as_str(), report.accepted)
-}
-
-// What is said of a sheet; a sheet that is refused ends the program with status 1.
-fn say(rt: &HostRuntime, text: &str, accepted: bool) -> Result<(), Stop> {
-    rt.print(text)?;
-    if accepted { Ok(()) } else { Err(Stop::Said) }
+    let report = report(rt.alloc(), bytes.as_slice())?;
+    rt.print(report.text.as_str())?;
+    Ok(if report.accepted {
+        ExitCode::SUCCESS
+    } else {
+        ExitCode::FAILURE
+    })
 }
 
 // The bytes of a sheet, from a file of hexadecimal text or from standard input.
-fn read_sheet(rt: &HostRuntime, file: Option<&str>) -> Result<Vec<u8>, Stop> {
+fn read_sheet<'a>(rt: &HostRuntime, file: Option<&'a str>) -> Result<Vec<u8>, Stop<'a>> {
     let text = read_text(rt, file)?;
-    match parse_hex(rt.alloc(), text.as_slice()) {
-        Ok(bytes) => Ok(bytes),
-        Err(HexFault::Text(fault)) => {
-            let name = file.unwrap_or("standard input");
-            let what = fault_words(rt.alloc(), &fault)?;
-            eprintln!(rt; "label: {name}: {what}")?;
-            Err(Stop::Said)
-        }
-        Err(HexFault::Memory) => Err(Stop::Memory),
-    }
+    parse_hex(rt.alloc(), text.as_slice()).map_err(|fault| match fault {
+        HexFault::Text(fault) => Stop::Misspelled {
+            name: file.unwrap_or("standard input"),
+            fault,
+        },
+        HexFault::Memory => Stop::Memory,
+    })
 }
 
-fn read_text(rt: &HostRuntime, file: Option<&str>) -> Result<Vec<u8>, Stop> {
+fn read_text<'a>(rt: &HostRuntime, file: Option<&'a str>) -> Result<Vec<u8>, Stop<'a>> {
     let Some(name) = file else {
         let mut text = Vec::new(rt.alloc());
         rt.stdin().read_to_end(&mut text)?;
         return Ok(text);
     };
-    match fs::read(rt, name) {
-        Ok(text) => Ok(text),
-        Err(error) => {
-            eprintln!(rt; "label: {name} cannot be read: {error}")?;
-            Err(Stop::Said)
-        }
-    }
+    fs::read(rt, name).map_err(|error| Stop::Unreadable { name, error })
 }

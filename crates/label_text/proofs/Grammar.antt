@@ -34,13 +34,13 @@ module _ (c : ℕ) (cs : List ℕ) (s : Spot) (rest : (m : Mode) (bs : List ℕ)
   sound_first (Some high) is bs e = joined is (rest (Half high) bs e)
 
   sound_between : (hash space : Bool) → eqb c 35 ≡ hash → is_gap c ≡ space → (bs : List ℕ) →
-      after_turn (cond hash (Goes Comment) (cond space (Goes Between) (first_digit (digit_of c)))) s (λ m. read_on m (behind s c) cs) ≡ Ok bs → Spells Between (c ∷ cs) bs
+      after_turn (cond hash (Ok (Goes Comment)) (cond space (Ok (Goes Between)) (first_digit (digit_of c)))) s (λ m. read_on m (behind s c) cs) ≡ Ok bs → Spells Between (c ∷ cs) bs
   sound_between true space is g bs e = subst (λ x. Spells Between (x ∷ cs) bs) (sym (eqb-true c 35 is)) (comment (rest Comment bs e))
   sound_between false true is g bs e = gap g (rest Between bs e)
   sound_between false false is g bs e = sound_first (digit_of c) refl bs e
 
   sound_comment : (newline : Bool) → eqb c 10 ≡ newline → (bs : List ℕ) →
-      after_turn (cond newline (Goes Between) (Goes Comment)) s (λ m. read_on m (behind s c) cs) ≡ Ok bs → Spells Comment (c ∷ cs) bs
+      after_turn (cond newline (Ok (Goes Between)) (Ok (Goes Comment))) s (λ m. read_on m (behind s c) cs) ≡ Ok bs → Spells Comment (c ∷ cs) bs
   sound_comment true is bs e = subst (λ x. Spells Comment (x ∷ cs) bs) (sym (eqb-true c 10 is)) (comment_ends (rest Between bs e))
   sound_comment false is bs e = comment_more (eqb-false c 10 is) (rest Comment bs e)
 
@@ -93,16 +93,16 @@ digit_no_hash c d is =
 pub complete : {m : Mode} {text bs : List ℕ} → Spells m text bs → (s : Spot) → read_on m s text ≡ Ok bs
 complete nothing s = refl
 complete (gap {c} {text} g more) s =
-    ap (λ b. after_turn (cond b (Goes Comment) (cond (is_gap c) (Goes Between) (first_digit (digit_of c)))) s (λ m. read_on m (behind s c) text)) (gap_no_hash c g)
-    ∙ ap (λ b. after_turn (cond b (Goes Between) (first_digit (digit_of c))) s (λ m. read_on m (behind s c) text)) g ∙ complete more (behind s c)
+    ap (λ b. after_turn (cond b (Ok (Goes Comment)) (cond (is_gap c) (Ok (Goes Between)) (first_digit (digit_of c)))) s (λ m. read_on m (behind s c) text)) (gap_no_hash c g)
+    ∙ ap (λ b. after_turn (cond b (Ok (Goes Between)) (first_digit (digit_of c))) s (λ m. read_on m (behind s c) text)) g ∙ complete more (behind s c)
 complete (byte {h} {l} {high} {low} {text} first second more) s =
-    ap (λ b. after_turn (cond b (Goes Comment) (cond (is_gap h) (Goes Between) (first_digit (digit_of h)))) s (λ m. read_on m (behind s h) (l ∷ text))) (digit_no_hash h high first)
-    ∙ ap (λ b. after_turn (cond b (Goes Between) (first_digit (digit_of h))) s (λ m. read_on m (behind s h) (l ∷ text))) (digit_no_gap h high first)
+    ap (λ b. after_turn (cond b (Ok (Goes Comment)) (cond (is_gap h) (Ok (Goes Between)) (first_digit (digit_of h)))) s (λ m. read_on m (behind s h) (l ∷ text))) (digit_no_hash h high first)
+    ∙ ap (λ b. after_turn (cond b (Ok (Goes Between)) (first_digit (digit_of h))) s (λ m. read_on m (behind s h) (l ∷ text))) (digit_no_gap h high first)
     ∙ ap (λ d. after_turn (first_digit d) s (λ m. read_on m (behind s h) (l ∷ text))) first
     ∙ ap (λ d. after_turn (second_digit high d) (behind s h) (λ m. read_on m (behind (behind s h) l) text)) second
     ∙ ap (with_byte (high * 16 + low)) (complete more (behind (behind s h) l))
 complete (comment {text} more) s = complete more (behind s 35)
 complete (comment_more {c} {text} other more) s =
-    ap (λ b. after_turn (cond b (Goes Between) (Goes Comment)) s (λ m. read_on m (behind s c) text)) (ne_eqb c 10 other) ∙ complete more (behind s c)
+    ap (λ b. after_turn (cond b (Ok (Goes Between)) (Ok (Goes Comment))) s (λ m. read_on m (behind s c) text)) (ne_eqb c 10 other) ∙ complete more (behind s c)
 complete (comment_ends {text} more) s = complete more (behind s 10)
 complete comment_last s = refl

@@ -1,12 +1,13 @@
 -- One character more of hexadecimal text, and its end.
 use Rattle.std.proofs.Common.{◌≡◌, ℕ, suc, ◌+◌, ◌<◌, ◌≤◌, Bool, true, false, cond, eqb, List, [], ◌∷◌, ◌++◌, length, get_or, drop, Ok, Err, Result, sym, refl, ap, ◌∙◌, append_assoc, append-nil, add-one, arith, drop-cons}
+use Rattle.std.specs.Result.{MatchResult, IsErrAnd}
 use Rattle.label_text.specs.declared.hexes.Spot.{Spot}
 use Rattle.label_text.specs.declared.hexes.TextFault.{TextFault}
-use Rattle.label_text.specs.declared.hexes.Slip.TheVariants.{NotHexadecimal, HalfByte}
+use Rattle.label_text.specs.declared.hexes.Slip.{Slip}
 use Rattle.label_text.specs.declared.hexes.Mode.{Mode}
 use Rattle.label_text.specs.declared.hexes.Mode.TheVariants.{Between, Half, Comment}
 use Rattle.label_text.specs.declared.hexes.Turn.{Turn}
-use Rattle.label_text.specs.declared.hexes.Turn.TheVariants.{Goes, Gives, Strange, Missing}
+use Rattle.label_text.specs.declared.hexes.Turn.TheVariants.{Goes, Gives}
 use Rattle.label_text.specs.Hexes.{turn, behind, with_byte, after_turn, read_on}
 use Rattle.label_text.specs.Parsed.{with_bytes}
 
@@ -27,24 +28,18 @@ module _ (text bs : List ℕ) (m : Mode) (s : Spot) (i : ℕ) (whole : Answer) (
   abbrev here : ℕ
   here = get_or text i 0
 
-  by_turn : (t : Turn) → t ≡ turn m here → with_bytes bs (after_turn t s (λ n. read_on n (behind s here) (drop (i + 1) text))) ≡ whole
+  by_turn : (t : Result Turn Slip) → t ≡ turn m here → with_bytes bs (after_turn t s (λ n. read_on n (behind s here) (drop (i + 1) text))) ≡ whole
   by_turn t e =
       ap (λ x. with_bytes bs (after_turn x s (λ n. read_on n (behind s here) (drop (i + 1) text)))) e
       ∙ ap (λ k. with_bytes bs (after_turn (turn m here) s (λ n. read_on n (behind s here) (drop k text)))) (add-one i)
       ∙ ap (with_bytes bs) (sym (read_on_turn m s here (drop (suc i) text)))
       ∙ ap (λ xs. with_bytes bs (read_on m s xs)) (sym (drop-cons text i 0 more)) ∙ is
 
-  pub goes_on : (n : Mode) → Goes n ≡ turn m here → with_bytes bs (read_on n (behind s here) (drop (i + 1) text)) ≡ whole
-  goes_on n e = by_turn (Goes n) e
+  pub goes_on : (n : Mode) → Ok (Goes n) ≡ turn m here → with_bytes bs (read_on n (behind s here) (drop (i + 1) text)) ≡ whole
+  goes_on n e = by_turn (Ok (Goes n)) e
 
-  pub gives_byte : (b : ℕ) → Gives b ≡ turn m here → with_bytes (bs ++ b ∷ []) (read_on Between (behind s here) (drop (i + 1) text)) ≡ whole
-  gives_byte b e = sym (with_bytes_byte bs b (read_on Between (behind s here) (drop (i + 1) text))) ∙ by_turn (Gives b) e
-
-  pub is_strange : Strange ≡ turn m here → Err (record { slip = NotHexadecimal; spot = s }) ≡ whole
-  is_strange e = by_turn Strange e
-
-  pub is_missing : Missing ≡ turn m here → Err (record { slip = HalfByte; spot = s }) ≡ whole
-  is_missing e = by_turn Missing e
+  pub gives_byte : (b : ℕ) → Ok (Gives b) ≡ turn m here → with_bytes (bs ++ b ∷ []) (read_on Between (behind s here) (drop (i + 1) text)) ≡ whole
+  gives_byte b e = sym (with_bytes_byte bs b (read_on Between (behind s here) (drop (i + 1) text))) ∙ by_turn (Ok (Gives b)) e
 
 behind_by : (b : Bool) (s t : Spot) (n : ℕ) → s.line ≤ n → s.column ≤ n → t.line ≤ n → t.column ≤ n → ((cond b s t).line ≤ n) × ((cond b s t).column ≤ n)
 behind_by true s t n p q u v = (p, q)
@@ -62,3 +57,8 @@ pub read_as : {bs cs : List ℕ} {m n : Mode} {s t : Spot} (rest : List ℕ) (wh
     with_bytes cs (read_on n t rest) ≡ whole → with_bytes bs (read_on m s rest) ≡ whole
 read_as {bs} {cs} {m} {n} {s} {t} rest whole b e p is =
     ap (λ x. with_bytes x (read_on m s rest)) b ∙ ap (λ x. with_bytes cs (read_on x s rest)) e ∙ ap (λ x. with_bytes cs (read_on n x rest)) p ∙ is
+
+-- what the turn was whose error, if it was one, got a place
+pub turn_of : (t : Result Turn Slip) (P : Slip → TextFault → Type 0) (x : Turn) → MatchResult t (λ y. ◌≡◌ {A = Result Turn TextFault} (Ok x) (Ok y)) (λ e. IsErrAnd {T = Turn} (Ok x) (P e)) → t ≡ Ok x
+turn_of (Ok y) P x is = cc
+turn_of (Err e) P x is = absurd is

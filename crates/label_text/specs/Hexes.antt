@@ -2,11 +2,12 @@
 use Rattle.std.specs.Prelude.{◌≡◌, ℕ, ◌+◌, ◌-◌, ◌*◌, Bool, true, cond, List, [], ◌∷◌, Some, None, Ok, Err, Option, Result, ◌==◌, ◌≢◌, nat_le}
 use Rattle.label_text.specs.declared.hexes.Spot.{Spot}
 use Rattle.label_text.specs.declared.hexes.TextFault.{TextFault}
+use Rattle.label_text.specs.declared.hexes.Slip.{Slip}
 use Rattle.label_text.specs.declared.hexes.Slip.TheVariants.{NotHexadecimal, HalfByte}
 use Rattle.label_text.specs.declared.hexes.Mode.{Mode}
 use Rattle.label_text.specs.declared.hexes.Mode.TheVariants.{Between, Half, Comment}
 use Rattle.label_text.specs.declared.hexes.Turn.{Turn}
-use Rattle.label_text.specs.declared.hexes.Turn.TheVariants.{Goes, Gives, Strange, Missing}
+use Rattle.label_text.specs.declared.hexes.Turn.TheVariants.{Goes, Gives}
 
 -- the value of the digits 0 to 9, A to F and a to f
 abbrev pub digit_of : ℕ → Option ℕ
@@ -29,19 +30,19 @@ pub data Spells : Mode → List ℕ → List ℕ → Type 0 where
   comment_ends : {text bytes : List ℕ} → Spells Between text bytes → Spells Comment (10 ∷ text) bytes
   comment_last : Spells Comment [] []
 
--- what a character does, by where the reading stands
-abbrev pub first_digit : Option ℕ → Turn
-first_digit None = Strange
-first_digit (Some d) = Goes (Half d)
+-- what a character does, by where the reading stands, or what is wrong with it there
+abbrev pub first_digit : Option ℕ → Result Turn Slip
+first_digit None = Err NotHexadecimal
+first_digit (Some d) = Ok (Goes (Half d))
 
-abbrev pub second_digit : ℕ → Option ℕ → Turn
-second_digit high None = Missing
-second_digit high (Some low) = Gives (high * 16 + low)
+abbrev pub second_digit : ℕ → Option ℕ → Result Turn Slip
+second_digit high None = Err HalfByte
+second_digit high (Some low) = Ok (Gives (high * 16 + low))
 
-abbrev pub turn : Mode → ℕ → Turn
-turn Between c = cond (c == 35) (Goes Comment) (cond (is_gap c) (Goes Between) (first_digit (digit_of c)))
+abbrev pub turn : Mode → ℕ → Result Turn Slip
+turn Between c = cond (c == 35) (Ok (Goes Comment)) (cond (is_gap c) (Ok (Goes Between)) (first_digit (digit_of c)))
 turn (Half high) c = second_digit high (digit_of c)
-turn Comment c = cond (c == 10) (Goes Between) (Goes Comment)
+turn Comment c = cond (c == 10) (Ok (Goes Between)) (Ok (Goes Comment))
 
 -- the place behind a character
 abbrev pub behind : Spot → ℕ → Spot
@@ -51,12 +52,11 @@ abbrev pub with_byte : ℕ → Result (List ℕ) TextFault → Result (List ℕ)
 with_byte b (Ok bytes) = Ok (b ∷ bytes)
 with_byte b (Err f) = Err f
 
--- how the reading goes on
-abbrev pub after_turn : Turn → Spot → (Mode → Result (List ℕ) TextFault) → Result (List ℕ) TextFault
-after_turn (Goes m) s rest = rest m
-after_turn (Gives b) s rest = with_byte b (rest Between)
-after_turn Strange s rest = Err (record { slip = NotHexadecimal; spot = s })
-after_turn Missing s rest = Err (record { slip = HalfByte; spot = s })
+-- how the reading goes on; what is wrong is wrong at this place
+abbrev pub after_turn : Result Turn Slip → Spot → (Mode → Result (List ℕ) TextFault) → Result (List ℕ) TextFault
+after_turn (Ok (Goes m)) s rest = rest m
+after_turn (Ok (Gives b)) s rest = with_byte b (rest Between)
+after_turn (Err slip) s rest = Err (record { slip = slip; spot = s })
 
 abbrev pub read_on : Mode → Spot → List ℕ → Result (List ℕ) TextFault
 read_on Between s [] = Ok []

@@ -7,8 +7,8 @@ use Rattle.records.specs.declared.rounds.Tally.{Tally}
 use Rattle.records.specs.Numbers.{number_of}
 use Rattle.records.specs.Rows.{Row, next, end, broken, row}
 use Rattle.records.specs.FirstRound.{first_round}
-use Rattle.label_text.specs.declared.listing.Listing.{Listing}
-use Rattle.label_text.specs.declared.listing.Numbering.{Numbering}
+use Rattle.label_text.specs.declared.report.Report.{Report}
+use Rattle.label_text.specs.declared.entries.Numbering.{Numbering}
 use Rattle.label_text.specs.Words.{words, reason}
 
 -- a record at its offset
@@ -59,6 +59,6 @@ last_line bytes (Ok t) = count_line bytes t
 last_line bytes (Err f) = refusal_line f
 
 -- the whole listing
-pub record Listed (bytes : List ℕ) (l : Listing) : Type 0 where
+pub record Listed (bytes : List ℕ) (l : Report) : Type 0 where
   pub text : string_bytes l.text ≡ record_lines bytes ++ last_line (length bytes) (first_round bytes)
   pub accepted : l.accepted ≡ is_ok (first_round bytes)

@@ -4,10 +4,11 @@ use Rattle.std.specs.declared.alloc.Global.{Global}
 use Rattle.label_text.specs.declared.hexes.TextFault.{TextFault}
 use Rattle.label_text.specs.declared.hexes.HexFault.{HexFault}
 use Rattle.label_text.specs.declared.hexes.HexFault.TheVariants.{Text, Memory}
+use Rattle.label_text.specs.declared.hexes.Slip.{Slip}
 use Rattle.label_text.specs.declared.hexes.Mode.{Mode}
 use Rattle.label_text.specs.declared.hexes.Mode.TheVariants.{Between, Half, Comment}
 use Rattle.label_text.specs.declared.hexes.Turn.{Turn}
-use Rattle.label_text.specs.declared.hexes.Turn.TheVariants.{Goes, Gives, Strange, Missing}
+use Rattle.label_text.specs.declared.hexes.Turn.TheVariants.{Goes, Gives}
 use Rattle.label_text.specs.Hexes.{Spells, reading}
 
 -- a first digit is below 16
@@ -16,11 +17,10 @@ Low Between = Unit {0}
 Low (Half high) = high < 16
 Low Comment = Unit {0}
 
-abbrev pub LeadsLow : Turn → Type 0
-LeadsLow (Goes m) = Low m
-LeadsLow (Gives b) = Unit {0}
-LeadsLow Strange = Unit {0}
-LeadsLow Missing = Unit {0}
+abbrev pub LeadsLow : Result Turn Slip → Type 0
+LeadsLow (Ok (Goes m)) = Low m
+LeadsLow (Ok (Gives b)) = Unit {0}
+LeadsLow (Err slip) = Unit {0}
 
 -- what is read behind these bytes
 abbrev pub with_bytes : List ℕ → Result (List ℕ) TextFault → Result (List ℕ) TextFault

@@ -8,7 +8,7 @@ ghost use Rattle.label_text.specs.declared.hexes.HexFault.TheVariants.{Text, Mem
 use std::alloc::{AllocFailed, Global};
 
 // Where a character stands: lines and columns count from 1, and a column is a byte.
-#[derive(Clone, Copy)]
+#[derive(Clone, Copy, Debug, PartialEq, Eq)]
 pub struct Spot {
     pub line: usize,
     pub column: usize,
@@ -16,19 +16,21 @@ pub struct Spot {
 
 // What is wrong with a character: it is neither a digit nor a space, a line end or a comment; or the second digit of a byte
 // should stand in its place.
-#[derive(Clone, Copy)]
+#[derive(Clone, Copy, Debug, PartialEq, Eq)]
 pub enum Slip {
     NotHexadecimal,
     HalfByte,
 }
 
-#[derive(Clone, Copy)]
+#[derive(Clone, Copy, Debug, PartialEq, Eq)]
 pub struct TextFault {
     pub slip: Slip,
     pub spot: Spot,
 }
 
-#[derive(Clone, Copy)]
+// Why no bytes come of a text. The conversions are written by hand, since the contract of the reading names the variant that
+// a ? makes, and a derived From promises none.
+#[derive(Clone, Copy, Debug, PartialEq, Eq)]
 pub enum HexFault {
     Text(TextFault),
     Memory,
@@ -47,8 +49,6 @@ enum Mode {
 enum Turn {
     Goes(Mode),
     Gives(u8),
-    Strange,
-    Missing,
 }
 
 impl From<TextFault> for HexFault {
@@ -86,36 +86,32 @@ fn digit(c: u8) -> Option<u8>
     ensures value { result ≡ digit_of c }
     ensures small { IfSome result (λ d. d < 16) }
 {
-    match c {
-        b'0'..=b'9' => Some(c - b'0'),
-        b'A'..=b'F' => Some(c - b'A' + 10),
-        b'a'..=b'f' => Some(c - b'a' + 10),
-        _ => None,
-    }
+    let value = char::from(c).to_digit(16)?;
+    Some(value as u8)
 }
 
 impl Mode {
-    fn turn(self, c: u8) -> Turn
+    fn turn(self, c: u8) -> Result<Turn, Slip>
         requires { Low self }
         ensures value { result ≡ turn self c }
         ensures low { LeadsLow result }
     {
         match self {
             Mode::Between => match c {
-                b'#' => Turn::Goes(Mode::Comment),
-                b' ' | b'\t' | b'\n' | b'\r' => Turn::Goes(Mode::Between),
-                _ => match digit(c) {
-                    Some(high) => Turn::Goes(Mode::Half(high)),
-                    None => Turn::Strange,
-                },
+                b'#' => Ok(Turn::Goes(Mode::Comment)),
+                b' ' | b'\t' | b'\n' | b'\r' => Ok(Turn::Goes(Mode::Between)),
+                _ => {
+                    let high = digit(c).ok_or(Slip::NotHexadecimal)?;
+                    Ok(Turn::Goes(Mode::Half(high)))
+                }
             },
-            Mode::Half(high) => match digit(c) {
-                Some(low) => Turn::Gives(high * 16 + low),
-                None => Turn::Missing,
-            },
+            Mode::Half(high) => {
+                let low = digit(c).ok_or(Slip::HalfByte)?;
+                Ok(Turn::Gives(high * 16 + low))
+            }
             Mode::Comment => match c {
-                b'\n' => Turn::Goes(Mode::Between),
-                _ => Turn::Goes(Mode::Comment),
+                b'\n' => Ok(Turn::Goes(Mode::Between)),
+                _ => Ok(Turn::Goes(Mode::Comment)),
             },
         }
     }
@@ -129,6 +125,7 @@ pub fn parse_hex(heap: Global, text: &[u8]) -> Result<Vec<u8>, HexFault>
     read_text(heap, text)
 }
 
+// The reading alone; `parse_hex` adds what its answer means for the bytes, once for all its exits.
 fn read_text(heap: Global, text: &[u8]) -> Result<Vec<u8>, HexFault>
     ensures { Parsed text.now result }
 {
@@ -136,21 +133,14 @@ fn read_text(heap: Global, text: &[u8]) -> Result<Vec<u8>, HexFault>
     let mut mode = Mode::Between;
     let mut spot = Spot { line: 1, column: 1 };
     for c in text {
-        match mode.turn(*c) {
-            Turn::Goes(next) => mode = next,
+        let turn = mode.turn(*c).map_err(|slip| TextFault { slip, spot })?;
+        mode = match turn {
+            Turn::Goes(next) => next,
             Turn::Gives(byte) => {
                 bytes.push(byte)?;
-                mode = Mode::Between;
+                Mode::Between
             }
-            Turn::Strange => return Err(HexFault::Text(TextFault {
-                slip: Slip::NotHexadecimal,
-                spot,
-            })),
-            Turn::Missing => return Err(HexFault::Text(TextFault {
-                slip: Slip::HalfByte,
-                spot,
-            })),
-        }
+        };
         spot.pass(*c);
     }
     match mode {
@@ -158,7 +148,6 @@ fn read_text(heap: Global, text: &[u8]) -> Result<Vec<u8>, HexFault>
             slip: Slip::HalfByte,
             spot,
         })),
-        Mode::Between => Ok(bytes),
-        Mode::Comment => Ok(bytes),
+        Mode::Between | Mode::Comment => Ok(bytes),
     }
 }

@@ -1,53 +1,33 @@
 // Whole listings, with the counts or the refusal at their end.
 use label_text::{Verb, list};
-use std::alloc::Global;
-use std::process::Abort;
 use std::test::Fail;
-
-fn lists(
-    rt: &impl Abort,
-    heap: Global,
-    bytes: &[u8],
-    accepted: bool,
-    text: &str,
-) -> Result<(), Fail> {
-    let listing = list(heap, bytes)?;
-    assert!(rt; listing.accepted == accepted);
-    assert!(rt; listing.text.as_str() == text);
-    Ok(())
-}
 
 #[test]
 fn counts_or_a_refusal_end_the_listing(rt: HostRuntime) -> Result<(), Fail> {
     let heap = rt.alloc();
-    lists(
-        &rt,
-        heap,
-        &[],
-        true,
-        "bytes 0, types 0, functions 0, steps 0\n",
-    )?;
-    lists(
-        &rt,
-        heap,
-        &[0x40, 3, 0x12],
-        false,
-        "0: return, a 3\nrefused 11 at 2: no record has this kind\n",
-    )?;
-    lists(
-        &rt,
-        heap,
-        &[0x32, 1, 2, 0x11, 0],
-        false,
-        "0: empty, d 1, t 2\nrefused 12 at 3: the sheet ends inside this record\n",
-    )?;
-    lists(
-        &rt,
-        heap,
-        &[0x40; 4097],
-        false,
-        "refused 10 at 0: the sheet is longer than 4096 bytes\n",
-    )
+    let listings: [(&[u8], bool, &str); 4] = [
+        (&[], true, "bytes 0, types 0, functions 0, steps 0\n"),
+        (
+            &[0x40, 3, 0x12],
+            false,
+            "0: return, a 3\nrefused 11 at 2: no record has this kind\n",
+        ),
+        (
+            &[0x32, 1, 2, 0x11, 0],
+            false,
+            "0: empty, d 1, t 2\nrefused 12 at 3: the sheet ends inside this record\n",
+        ),
+        (
+            &[0x40; 4097],
+            false,
+            "refused 10 at 0: the sheet is longer than 4096 bytes\n",
+        ),
+    ];
+    for (sheet, accepted, text) in listings {
+        let listing = list(heap, sheet)?;
+        assert_eq!(rt; (listing.accepted, listing.text.as_str()), (accepted, text));
+    }
+    Ok(())
 }
 
 #[test]
@@ -62,7 +42,9 @@ fn types_and_functions_are_numbered(rt: HostRuntime) -> Result<(), Fail> {
 19: function 1, count 4, parameters 0 1 2 0, result 2, entry 0, remainder 0
 bytes 30, types 2, functions 2, steps 0
 ";
-    lists(&rt, rt.alloc(), &sheet, true, text)
+    let listing = list(rt.alloc(), &sheet)?;
+    assert_eq!(rt; (listing.accepted, listing.text.as_str()), (true, text));
+    Ok(())
 }
 
 #[test]
@@ -79,12 +61,14 @@ fn each_step_in_words(rt: HostRuntime) -> Result<(), Fail> {
 29: if, a 7, second 9
 bytes 33, types 0, functions 0, steps 6
 ";
-    lists(&rt, rt.alloc(), &sheet, true, text)
+    let listing = list(rt.alloc(), &sheet)?;
+    assert_eq!(rt; (listing.accepted, listing.text.as_str()), (true, text));
+    Ok(())
 }
 
 #[test]
 fn verbs_go_by_their_names(rt: HostRuntime) {
-    assert!(rt; Verb::named("list").is_some());
-    assert!(rt; Verb::named("List").is_none());
-    assert!(rt; Verb::named("").is_none());
+    assert_eq!(rt; Verb::named("list"), Some(Verb::List));
+    assert_eq!(rt; Verb::named("List"), None);
+    assert_eq!(rt; Verb::named(""), None);
 }

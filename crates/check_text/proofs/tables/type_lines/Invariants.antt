@@ -1,9 +1,0 @@
--- The lines so far, and those of the entries that are left, are the lines of the table.
-use Rattle.std.proofs.Common.{◌≡◌, ◌+◌, ◌-◌, ◌++◌, string_bytes}
-use Rattle.sheet.specs.Sheets.{sheet_tables, list_type_at}
-use Rattle.check_text.specs.Reports.{lines_from, type_line, type_lines}
-use Rattle.check_text.proofs.tables.type_lines.Given as goal
-
-abbrev pub invariant-loop-i : goal.invariant-loop-i
-invariant-loop-i l =
-    string_bytes l.text ++ lines_from (list_type_at (sheet_tables l.sheet).types) type_line (32 - l.i) (l.i + 1) ≡ type_lines (sheet_tables l.sheet).types
