@@ -1,3 +1,3 @@
 pub mod Calls
-pub mod ByAnswer
 pub mod Rows
+pub mod Mapped

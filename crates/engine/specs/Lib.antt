@@ -1,4 +1,3 @@
 pub mod Answers
-pub mod Outcomes
 pub mod Service
 pub mod Rows

@@ -6,7 +6,7 @@ ghost use Rattle.std.specs.Prelude.{◌≡◌};
 use cells::fault::StoreFault;
 use records::Fault;
 
-#[derive(Clone, Copy)]
+#[derive(Clone, Copy, PartialEq, Eq, Debug)]
 pub enum FeedFault {
     // the record is empty, of unknown kind or of the wrong length
     BadRecord,
@@ -20,7 +20,8 @@ pub enum FeedFault {
     Store(StoreFault),
 }
 
-#[derive(Clone, Copy)]
+// Two each for the state and for depth, since an advance also tells how many steps it made. What is of feed waits for that call.
+#[derive(Clone, Copy, PartialEq, Eq, Debug)]
 pub enum EngineFault {
     // the state excludes the call, or the advance
     Excluded,
@@ -37,6 +38,8 @@ pub enum EngineFault {
     TooDeepAfter(u32),
 }
 
+// The conversions are written out, since a derived `From` says nothing of what it gives, and contracts promise that a fault comes
+// whole.
 impl From<StoreFault> for FeedFault {
     ghost from_gives = { λ fault r. r ≡ Store fault };
 

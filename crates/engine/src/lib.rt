@@ -3,17 +3,14 @@
 
 mod advancing;
 mod asking;
-mod calling;
 mod engine;
 mod faults;
 mod funding;
-mod kinds;
 mod loading;
-mod making;
 mod nodes;
 mod pulling;
-mod slots;
 mod stepping;
+mod works;
 
 pub use engine::Engine;
 pub use faults::{EngineFault, FeedFault};

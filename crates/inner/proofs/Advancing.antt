@@ -11,7 +11,7 @@ use Rattle.standing.specs.Serving.{Done, done, stepped, one_step_on_words}
 use Rattle.standing.specs.Law.{Takeable}
 use Rattle.inner.specs.declared.kept.Inner.{Inner}
 use Rattle.inner.specs.declared.kept.State.{State}
-use Rattle.inner.specs.declared.kept.State.TheVariants.{Bare, Running}
+use Rattle.inner.specs.declared.kept.State.TheVariants.{Bare, Open, Running, Done as IsDone}
 use Rattle.inner.specs.Meant.{moment, phase_of, WellKept}
 use Rattle.inner.proofs.Moments.{running_moment}
 use Rattle.inner.proofs.Excluded.{loaded_sheet, phase_kept, same_state}
@@ -94,6 +94,13 @@ answers_by m p v c (is_on {s} {fs}) x = by (step_on_words (program_of s) fs m x.
     by refused q =
         let r = ap (λ z. z.answer) q in
         (λ t. let z : ◌≡◌ {A = ℕ} 0 1 = cc in omega arith, λ t. let z : ◌≡◌ {A = ℕ} 0 1 = cc in omega arith)
+
+-- so its state, if it is not done, is that it is on
+pub still_running : (a : State) → (phase_of a ≡ is_bare → ⊥) × (phase_of a ≡ is_open → ⊥) → (a ≡ IsDone → ⊥) → a ≡ Running
+still_running Bare h over = absurd (h.0 refl)
+still_running Open h over = absurd (h.1 refl)
+still_running Running h over = refl
+still_running IsDone h over = absurd (over refl)
 
 -- and is refused for depth alone
 pub refused_for_depth : {w : Moment} (m : Map) (x : Refusal) (v : Moment) (c : Map) → IsOn w → StepsTo w m (done (refused_with x) v c) → x ≡ is_too_deep

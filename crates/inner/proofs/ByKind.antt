@@ -1,6 +1,7 @@
 -- What each kind of step does to what an engine keeps is what it does on words: a lemma for each kind. Rests on what a step does to
 -- all that an engine keeps.
-use Rattle.std.proofs.Common.{◌≡◌, ℕ, ◌+◌, ◌<◌, ◌≤◌, Bool, true, false, cond, eqb, leb, List, ◌∷◌, length, take, set, Some, sym, refl, ap, ◌∙◌, subst, arith, eqb-true, leb-false, leb-true}
+use Rattle.std.proofs.Common.{◌≡◌, ℕ, ◌+◌, ◌<◌, ◌≤◌, Bool, true, false, cond, eqb, leb, List, [], ◌∷◌, length, take, set, Some, sym, refl, ap, ◌∙◌, subst, arith, eqb-true, leb-false, leb-true}
+use Rattle.std.proofs.lemmas.List.{length-reverse}
 use borrow.Author.Tests.{eqb-false}
 use Rattle.records.specs.declared.kinds.Step.{Step as Action}
 use Rattle.records.specs.declared.kinds.Step.TheVariants.{Const, Arith, Empty, Cons, Call, Return, Match, If}
@@ -14,12 +15,15 @@ use Rattle.standing.specs.declared.frames.Slot.TheVariants.{Number, ListOf}
 use Rattle.standing.specs.declared.frames.Frame.{Frame}
 use Rattle.standing.specs.Stepping.{goes_on, refused, effect, slot_in, slot_word, slot_type, used_words, words_in, word_frame, left_behind}
 use Rattle.inner.specs.declared.kept.Inner.{Inner}
-use Rattle.inner.specs.Meant.{moment, sheet_of, suspended, no_frame, WellKept, phase_of}
+use Rattle.inner.specs.Meant.{moment, sheet_of, suspended, WellKept, phase_of}
 use Rattle.inner.specs.Changes.{with_frame, with_return, with_result}
 use Rattle.inner.specs.Kinds.{onward, const_frame, arith_frame, empty_frame, if_frame, cons_frame, Consed, element_in, function_in, node_frame, matched_cells, matched_frame, callee_frame, caller_frame, called, handed_back}
 use Rattle.inner.specs.Serving.{PriceFits, Does, ComesTo}
-use Rattle.inner.proofs.Stacks.{newest_length}
 use Rattle.inner.proofs.Stepping.{beyond_all, due_effect, frame_step, call_step, return_step, end_step, refused_step}
+
+none_there : {X : Type 0} (xs : List X) → length xs ≡ 0 → xs ≡ []
+none_there [] e = refl
+none_there (x ∷ xs) e = absurd (omega arith)
 
 -- a choice under a step that goes on
 chosen : (b : Bool) (A B : Frame) (fs : List Frame) (m n : Map) → cond b (goes_on (A ∷ fs) m) (goes_on (B ∷ fs) n) ≡ goes_on (cond b A B ∷ fs) (cond b m n)
@@ -71,12 +75,12 @@ module _ (capacity : ℕ) (m : Map) (i : Inner) (a : Action) (due : ComesTo i a)
         (as_kind (Cons d t h l) c.number is ∙
         (goes_behind (Cons d t h l) F.slots _ is ∙ ap (λ x. goes_on (F ∷ suspended i) x) (sym c.cells)))
 
-    pub call_does : (d f : ℕ) (slots : List ℕ) (j : Inner) → a ≡ Call d f slots → i.depth < 63 → j ≡ called i (function_in i.sheet f) slots d next →
+    pub call_does : (d f : ℕ) (slots : List ℕ) (j : Inner) → a ≡ Call d f slots → length i.callers.items < 63 → j ≡ called i (function_in i.sheet f) slots d next →
         Does capacity m i one_step (in_phase is_running) m j
     call_does d f slots j is few e =
         let g = function_in i.sheet f in
         let fs = suspended i in
-        let deep = newest_length no_frame i.callers i.depth in
+        let deep = length-reverse i.callers.items in
         let room : leb 64 (length fs + 1) ≡ false = not_reached (length fs + 1) (omega arith) in
         let here = ap (λ o. function_in o f) due.loaded in
         call_step capacity m m i a due 65536 (beyond_all numbered) (callee_frame i.frame g slots d) (caller_frame i.frame g slots next) j kept few e
@@ -124,7 +128,7 @@ module _ (capacity : ℕ) (m : Map) (i : Inner) (a : Action) (due : ComesTo i a)
         (sym (behind ∙ ap (λ y. i.frame.next + step_size y) is)))
 
   -- a Call with 64 frames
-  pub deep_does : (d f : ℕ) (slots : List ℕ) → a ≡ Call d f slots → 63 ≤ i.depth → PriceFits (moment i) m →
+  pub deep_does : (d f : ℕ) (slots : List ℕ) → a ≡ Call d f slots → 63 ≤ length i.callers.items → PriceFits (moment i) m →
       Does capacity m i one_step (refused_with too_deep) m i
   deep_does d f slots is full fits =
       refused_step capacity m i a due numbered kept fits
@@ -142,20 +146,20 @@ module _ (capacity : ℕ) (m : Map) (i : Inner) (a : Action) (due : ComesTo i a)
           at_least : (b : Bool) → leb 64 (length (suspended i) + 1) ≡ b → leb 64 (length (suspended i) + 1) ≡ true
           at_least true q = q
           at_least false q =
-              absurd (let r = leb-false 64 (length (suspended i) + 1) q in let deep = newest_length no_frame i.callers i.depth in omega arith)
+              absurd (let r = leb-false 64 (length (suspended i) + 1) q in let deep = length-reverse i.callers.items in omega arith)
 
   -- a Return to a caller, or from the last frame
   pub return_does : (x : ℕ) (j : Inner) → a ≡ Return x → j ≡ handed_back i (slot_in i.frame.slots x) →
       Does capacity m i one_step (in_phase (phase_of j.state)) m j
-  return_does x j is e = by_depth (eqb i.depth 0) refl
+  return_does x j is e = by_depth (eqb (length i.callers.items) 0) refl
     where
-      by_depth : (b : Bool) → eqb i.depth 0 ≡ b → Does capacity m i one_step (in_phase (phase_of j.state)) m j
+      by_depth : (b : Bool) → eqb (length i.callers.items) 0 ≡ b → Does capacity m i one_step (in_phase (phase_of j.state)) m j
       by_depth true q =
           let over = e ∙ ap (λ b. cond b (with_result i (slot_in i.frame.slots x)) (with_return i (slot_in i.frame.slots x))) q in
           subst (λ s. Does capacity m i one_step (in_phase (phase_of s)) m j) (sym (ap (λ k. k.state) over))
-          (end_step capacity m m i a due 65536 (beyond_all numbered) (slot_in i.frame.slots x) j kept (eqb-true i.depth 0 q) over (as_kind (Return x) 65536 is))
+          (end_step capacity m m i a due 65536 (beyond_all numbered) (slot_in i.frame.slots x) j kept (none_there i.callers.items (eqb-true (length i.callers.items) 0 q)) over (as_kind (Return x) 65536 is))
       by_depth false q =
           let back = e ∙ ap (λ b. cond b (with_result i (slot_in i.frame.slots x)) (with_return i (slot_in i.frame.slots x))) q in
-          let some = eqb-false i.depth 0 q in
+          let some = eqb-false (length i.callers.items) 0 q in
           subst (λ s. Does capacity m i one_step (in_phase (phase_of s)) m j) (sym (ap (λ k. k.state) back ∙ due.running))
           (return_step capacity m m i a due 65536 (beyond_all numbered) (slot_in i.frame.slots x) j kept (omega arith) back (as_kind (Return x) 65536 is))

@@ -1,24 +1,23 @@
 -- That funding does what it does on words, and its tests. Rests on the moment of an open engine.
-use Rattle.std.proofs.Common.{◌≡◌, ℕ, suc, ◌+◌, ◌<◌, ◌≤◌, Bool, true, false, cond, eqb, leb, List, [], ◌∷◌, map, length, get_or, take, drop, set, Some, sym, refl, ap, ◌∙◌, subst, arith, le-leb}
+use Rattle.std.proofs.Common.{◌≡◌, ℕ, suc, Bool, true, false, cond, ◌&&◌, eqb, leb, List, [], ◌∷◌, map, length, Some, sym, refl, ap, ◌∙◌, subst, arith, le-leb}
+use Rattle.std.specs.List.{list_all, zip}
 use borrow.Author.Tests.{lt-leb}
 use Rattle.cells.specs.Cells.{Map, free}
 use Rattle.rules.specs.Tests.{both}
-use Rattle.plain.specs.Calls.{fund, accepted, refused_with, other_parameters, too_dear, excluded}
+use Rattle.plain.specs.Calls.{fund, accepted, refused_with, other_parameters, too_dear}
 use Rattle.plain.specs.Feeding.{same_numbers}
 use Rattle.sheet.specs.declared.passed.Sheet.{Sheet as LoadedSheet}
-use Rattle.standing.specs.Stepping.{moved_in}
 use Rattle.standing.specs.Moments.{running_with}
 use Rattle.standing.specs.Serving.{done, refuse, are_parameters, first_frame, price, fund_on_words}
 use Rattle.inner.specs.declared.kept.Inner.{Inner}
 use Rattle.inner.specs.declared.kept.State.TheVariants.{Open}
 use Rattle.inner.specs.Meant.{moment, sheet_of, input_stack, WellKept}
 use Rattle.inner.specs.Changes.{started}
-use Rattle.inner.specs.Outcomes.{Funds, FundMistaken, FundUnpaid, ExcludedFrom}
+use Rattle.inner.proofs.Outcomes.{Funds, FundMistaken, FundUnpaid}
 use Rattle.inner.specs.Serving.{PriceFits, Does}
-use Rattle.inner.proofs.Passing.{next_of}
+use Rattle.inner.proofs.Keeping.{started_kept}
 use Rattle.inner.proofs.Moments.{open_moment, running_moment}
 use Rattle.inner.proofs.Stepping.{told_alters, same_unaltered, is_there}
-use Rattle.inner.proofs.Excluded.{fund_excluded}
 use Rattle.inner.proofs.Opening.{same_does}
 
 -- rows of other lengths are not the same
@@ -32,25 +31,17 @@ same_length (x ∷ xs) (y ∷ ys) h = either (eqb x y) (same_length xs ys (λ e.
     either true e = e
     either false e = refl
 
-module _ {X : Type 0} (other : X) (f : X → ℕ) (xs : List X) (ys : List ℕ) (n k : ℕ) (more : k < n) (few : n ≤ length xs) (fewer : n ≤ length ys) where
-  -- what is left to compare begins with what stands at k
-  compared_at : same_numbers (map f (drop k (take n xs))) (drop k (take n ys)) ≡
-      both (eqb (f (get_or xs k other)) (get_or ys k 0)) (same_numbers (map f (drop (k + 1) (take n xs))) (drop (k + 1) (take n ys)))
-  compared_at =
-      ap (λ zs. same_numbers (map f zs) (drop k (take n ys))) (next_of other xs n k more few) ∙
-      ap (λ zs. same_numbers (map f (get_or xs k other ∷ drop (k + 1) (take n xs))) zs) (next_of 0 ys n k more fewer)
+as_both : (a : Bool) {b c : Bool} → b ≡ c → (a && b) ≡ both a c
+as_both true e = e
+as_both false e = refl
 
-  pub compared_same : eqb (f (get_or xs k other)) (get_or ys k 0) ≡ true →
-      same_numbers (map f (drop (k + 1) (take n xs))) (drop (k + 1) (take n ys)) ≡ same_numbers (map f (drop k (take n xs))) (drop k (take n ys))
-  compared_same e = sym (compared_at ∙ ap (λ b. both b (same_numbers (map f (drop (k + 1) (take n xs))) (drop (k + 1) (take n ys)))) e)
-
-  pub compared_other : eqb (f (get_or xs k other)) (get_or ys k 0) ≡ false → same_numbers (map f (drop k (take n xs))) (drop k (take n ys)) ≡ false
-  compared_other e = compared_at ∙ ap (λ b. both b (same_numbers (map f (drop (k + 1) (take n xs))) (drop (k + 1) (take n ys)))) e
-
--- one more is moved in
-pub moved_more : {X Y : Type 0} (other : X) (f : X → Y) (xs : List X) (A : List Y) (n k : ℕ) → k < n → n ≤ length xs →
-    moved_in (k + 1) (map f (drop (k + 1) (take n xs))) (set A k (f (get_or xs k other))) ≡ moved_in k (map f (drop k (take n xs))) A
-moved_more other f xs A n k more few = ap (λ zs. moved_in k (map f zs) A) (sym (next_of other xs n k more few))
+-- rows of the same length are the same where each two in one place are
+pub compared : {X : Type 0} (f : X → ℕ) (xs : List X) (ys : List ℕ) → length xs ≡ length ys →
+    list_all (λ (p : X × ℕ). eqb (f p.0) p.1) (zip xs ys) ≡ same_numbers (map f xs) ys
+compared f [] [] e = refl
+compared f [] (y ∷ ys) e = absurd (omega arith)
+compared f (x ∷ xs) [] e = absurd (omega arith)
+compared f (x ∷ xs) (y ∷ ys) e = as_both (eqb (f x) y) (compared f xs ys (omega arith))
 
 module _ (capacity : ℕ) (m : Map) (i : Inner) (kept : WellKept i) where
   -- funding by its two tests
@@ -82,7 +73,7 @@ module _ (capacity : ℕ) (m : Map) (i : Inner) (kept : WellKept i) where
       subst (λ y. Does capacity m i fund accepted n y) (sym x.inner)
       (subst (λ c. Does capacity m i fund accepted c (started i F)) (sym x.cells)
       (record {
-        kept = record { inputs = kept.inputs; few_inputs = kept.few_inputs; callers = kept.callers; few_callers = omega arith; loaded = is_there x.loaded };
+        kept = started_kept i kept (is_there x.loaded) F;
         fits = subst (λ w. PriceFits w m) (sym on) tt;
         did = ap (λ w. done accepted w m) on ∙ sym (fund_at s true true x.is_open x.loaded x.parameters (le-leb (price (moment i)) (free capacity m) x.paid));
         unaltered = told_alters accepted tt;
@@ -104,6 +95,3 @@ module _ (capacity : ℕ) (m : Map) (i : Inner) (kept : WellKept i) where
           did = sym (fund_at x.sheet true false x.is_open x.loaded x.parameters (lt-leb (price (moment i)) (free capacity m) x.unpaid));
           unaltered = same_unaltered m i _;
         }))
-
-    pub fund_excluded_does : (n : Map) (j : Inner) → ExcludedFrom Open m i n j → Does capacity m i fund (refused_with excluded) n j
-    fund_excluded_does n j x = same_does capacity m i kept fits fund (refused_with excluded) x.same (fund_excluded capacity m i kept fits x.other_state)

@@ -1,4 +1,8 @@
+pub mod States
+pub mod Outcomes
 pub mod Stacks
+pub mod Keeping
+pub mod Once
 pub mod Moments
 pub mod Excluded
 pub mod Needed

@@ -1,6 +1,7 @@
 -- What the entries bring along fits 32 bits. Rests on the moments of each state.
-use Rattle.std.proofs.Common.{◌≡◌, ℕ, zero, suc, ◌*◌, ◌<◌, ◌≤◌, List, Some, Option, sym, subst, ⊎_elim, arith}
-use Rattle.std.proofs.lemmas.Bool.{cases_lt}
+use Rattle.std.proofs.Common.{◌≡◌, ℕ, ◌+◌, ◌*◌, ◌≤◌, sum_by, List, [], ◌∷◌, reverse, Some, Option, sym, refl, ap, ◌∙◌, subst, arith}
+use Rattle.std.proofs.lemmas.List.Sums.{sum_by-cons, sum_by_push}
+use mathlib.Core.List.{reverse-cons}
 use Rattle.cells.specs.Cells.{Map, count}
 use Rattle.sheet.specs.declared.passed.Sheet.{Sheet as LoadedSheet}
 use Rattle.sheet.proofs.Known.{sheet_lawful}
@@ -9,21 +10,26 @@ use Rattle.standing.specs.Serving.{brought}
 use Rattle.inner.specs.declared.kept.Inner.{Inner}
 use Rattle.inner.specs.declared.kept.State.{State}
 use Rattle.inner.specs.declared.kept.State.TheVariants.{Bare, Open}
-use Rattle.inner.specs.Meant.{newest_first, no_input, input_stack}
+use Rattle.inner.specs.Meant.{input_stack}
 use Rattle.inner.specs.Kinds.{KnownFunction}
 use Rattle.inner.specs.Serving.{greatest_amount, greatest_price, PriceFits, Serving}
 use Rattle.inner.proofs.Moments.{open_moment}
 use Rattle.inner.proofs.Excluded.{loaded_sheet}
 
--- more entries bring no less
-pub brought_grows : (xs : List Input) (k n : ℕ) → k ≤ n → brought (newest_first no_input xs k) ≤ brought (newest_first no_input xs n)
-brought_grows xs zero n h = omega arith
-brought_grows xs (suc k) zero h = absurd (omega arith)
-brought_grows xs (suc k) (suc n) h =
-    ⊎_elim
-    (λ (less : suc k < suc n). let more = brought_grows xs (suc k) n (omega arith) in omega arith)
-    (λ (least : suc n ≤ suc k). let same : k ≡ n = omega arith in subst (λ j. brought (newest_first no_input xs (suc k)) ≤ brought (newest_first no_input xs (suc j))) same (omega arith))
-    (cases_lt (suc k) (suc n))
+-- what entries bring along is a sum, in whichever order
+brought_summed : (xs : List Input) → brought xs ≡ sum_by (λ x. x.potential) xs
+brought_summed [] = refl
+brought_summed (x ∷ xs) = ap (λ n. x.potential + n) (brought_summed xs) ∙ sym (sum_by-cons (λ (y : Input). y.potential) x xs)
+
+pub brought_turned : (xs : List Input) → brought (reverse xs) ≡ sum_by (λ x. x.potential) xs
+brought_turned xs = brought_summed (reverse xs) ∙ turned xs
+  where
+    turned : (xs : List Input) → sum_by (λ x. x.potential) (reverse xs) ≡ sum_by (λ x. x.potential) xs
+    turned [] = refl
+    turned (x ∷ xs) =
+        ap (sum_by (λ (y : Input). y.potential)) (reverse-cons x xs) ∙
+        (sum_by_push (λ (y : Input). y.potential) (reverse xs) x ∙
+        (let e = turned xs in let c = sum_by-cons (λ (y : Input). y.potential) x xs in omega (arith, e, c)))
 
 open_not_bare : (a : State) → a ≡ Open → a ≡ Bare → ⊥
 open_not_bare a p q = let z : ◌≡◌ {A = ℕ} 0 1 = cc in omega arith

@@ -1,5 +1,5 @@
 -- What a step does to all that an engine keeps, and that this is what a step does on words. Rests on the moments of each state.
-use Rattle.std.proofs.Common.{◌≡◌, ℕ, ◌<◌, true, ◌∷◌, is_some, Some, Option, sym, refl, ap, ◌∙◌, subst, arith, lit<, lit≤, length-set}
+use Rattle.std.proofs.Common.{◌≡◌, ℕ, ◌<◌, true, [], ◌∷◌, reverse, length, is_some, Some, Option, sym, refl, ap, ◌∙◌, subst, lit<, lit≤}
 use Rattle.records.specs.declared.kinds.Step.{Step as Action}
 use Rattle.cells.specs.Cells.{Map, Numbered}
 use Rattle.plain.specs.Calls.{one_step, Answer, accepted, in_phase, advanced, pulled, at_end, counted, is_running, is_done, refused_with, too_deep}
@@ -13,10 +13,11 @@ use Rattle.standing.specs.Law.{Takeable}
 use Rattle.standing.specs.Calls.{MayDo}
 use Rattle.inner.specs.declared.kept.Inner.{Inner}
 use Rattle.inner.specs.declared.kept.State.TheVariants.{Running}
-use Rattle.inner.specs.Meant.{moment, sheet_of, suspended, frame_stack, no_frame, newest_first, WellKept}
+use Rattle.inner.specs.Meant.{moment, sheet_of, suspended, frame_stack, no_frame, caller_limit, WellKept}
 use Rattle.inner.specs.Changes.{with_frame, with_call, with_return, with_result}
 use Rattle.inner.specs.Serving.{PriceFits, Unaltered, Does, ComesTo}
 use Rattle.inner.proofs.Stacks.{newest_pushed, newest_top}
+use Rattle.inner.proofs.Keeping.{frame_kept, call_kept, return_kept, result_kept}
 use Rattle.inner.proofs.Moments.{running_moment, done_moment}
 
 -- a number that no store holds: what is left open where no cell is taken
@@ -80,51 +81,37 @@ module _ (capacity : ℕ) (m n : Map) (i : Inner) (a : Action) (due : ComesTo i 
       Does capacity m i one_step (in_phase is_running) n j
   frame_step F j kept e f =
       subst (λ x. Does capacity m i one_step (in_phase is_running) n x) (sym e)
-      (goes_on_to (with_frame i F)
-      (record { inputs = kept.inputs; few_inputs = kept.few_inputs; callers = kept.callers; few_callers = kept.few_callers; loaded = kept.loaded })
-      due.running due.loaded f)
+      (goes_on_to (with_frame i F) (frame_kept i kept F) due.running due.loaded f)
 
   -- a function is called
-  pub call_step : (callee caller : Frame) (j : Inner) → WellKept i → i.depth < 63 → j ≡ with_call i callee caller →
+  pub call_step : (callee caller : Frame) (j : Inner) → WellKept i → length i.callers.items < caller_limit → j ≡ with_call i callee caller →
       due_effect i a due m k ≡ goes_on (callee ∷ (caller ∷ suspended i)) n → Does capacity m i one_step (in_phase is_running) n j
   call_step callee caller j kept few e f =
-      let c = kept.callers in
-      let pushed = newest_pushed no_frame i.callers i.depth caller (omega arith) in
       subst (λ x. Does capacity m i one_step (in_phase is_running) n x) (sym e)
-      (goes_on_to (with_call i callee caller)
-      (record {
-        inputs = kept.inputs;
-        few_inputs = kept.few_inputs;
-        callers = length-set i.callers i.depth caller ∙ c;
-        few_callers = omega arith;
-        loaded = kept.loaded;
-      })
-      due.running due.loaded (f ∙ ap (λ fs. goes_on (callee ∷ fs) n) (sym pushed)))
+      (goes_on_to (with_call i callee caller) (call_kept i kept callee caller few) due.running due.loaded
+      (f ∙ ap (λ fs. goes_on (callee ∷ fs) n) (sym (newest_pushed i.callers.items caller))))
 
   -- a caller is resumed
-  pub return_step : (x : Slot) (j : Inner) → WellKept i → 0 < i.depth → j ≡ with_return i x →
+  pub return_step : (x : Slot) (j : Inner) → WellKept i → 0 < length i.callers.items → j ≡ with_return i x →
       due_effect i a due m k ≡ handed_back (suspended i) i.frame.awaiting x n → Does capacity m i one_step (in_phase is_running) n j
   return_step x j kept some e f =
-      let few = kept.few_callers in
-      let top = newest_top no_frame i.callers i.depth some in
       subst (λ y. Does capacity m i one_step (in_phase is_running) n y) (sym e)
-      (goes_on_to (with_return i x)
-      (record { inputs = kept.inputs; few_inputs = kept.few_inputs; callers = kept.callers; few_callers = omega arith; loaded = kept.loaded })
-      due.running due.loaded (f ∙ ap (λ fs. handed_back fs i.frame.awaiting x n) top))
+      (goes_on_to (with_return i x) (return_kept i kept x) due.running due.loaded
+      (f ∙ ap (λ fs. handed_back fs i.frame.awaiting x n) (newest_top no_frame i.callers.items some)))
 
   -- the run ends
-  pub end_step : (x : Slot) (j : Inner) → WellKept i → i.depth ≡ 0 → j ≡ with_result i x →
+  pub end_step : (x : Slot) (j : Inner) → WellKept i → i.callers.items ≡ [] → j ≡ with_result i x →
       due_effect i a due m k ≡ handed_back (suspended i) i.frame.awaiting x n → Does capacity m i one_step (in_phase is_done) n j
   end_step x j kept none e f =
       let over = done_moment (with_result i x) due.sheet refl due.loaded in
       subst (λ y. Does capacity m i one_step (in_phase is_done) n y) (sym e)
       (record {
-        kept = record { inputs = kept.inputs; few_inputs = kept.few_inputs; callers = kept.callers; few_callers = kept.few_callers; loaded = is_there due.loaded };
+        kept = result_kept i kept (is_there due.loaded) x;
         fits = subst (λ w. PriceFits w n) (sym over) tt;
         did =
             step_did (in_phase is_done) (moment (with_result i x))
             (ap (stepped (sheet_of due.sheet) (frame_stack i) m)
-            (f ∙ ap (λ d. handed_back (newest_first no_frame i.callers d) i.frame.awaiting x n) none) ∙
+            (f ∙ ap (λ fs. handed_back (reverse fs) i.frame.awaiting x n) none) ∙
             ap (λ w. done (in_phase is_done) w n) (sym over));
         unaltered = told_alters (in_phase is_done) tt;
       })

@@ -99,4 +99,4 @@ called i g slots d next = with_call i (callee_frame i.frame g slots d) (caller_f
 
 -- a Return goes to the caller, or ends the run
 abbrev pub handed_back : Inner → Slot → Inner
-handed_back i x = cond (i.depth == 0) (with_result i x) (with_return i x)
+handed_back i x = cond (length i.callers.items == 0) (with_result i x) (with_return i x)

@@ -32,13 +32,18 @@ PriceFits (open_with s es) m = brought es ≤ greatest_amount * count m
 PriceFits (running_with s fs) m = Unit {0}
 PriceFits (done_with s x) m = Unit {0}
 
--- it is well kept, and stands for a sound state of the plain service
+-- a sound state of the plain service that moment and cells stand for
+pub record StoodFor (capacity : ℕ) (m : Map) (w : Moment) : Type 0 where
+  pub state : State
+  pub stands : Stands m w state
+  pub sound : Sound capacity state
+
+-- It is well kept, and stands for a sound state of the plain service. The fact says that there is one, and not which, so that it has
+-- at most one proof and can stand in a type.
 pub record Serving (capacity : ℕ) (m : Map) (i : Inner) : Type 0 where
   pub kept : WellKept i
   pub fits : PriceFits (moment i) m
-  pub state : State
-  pub stands : Stands m (moment i) state
-  pub sound : Sound capacity state
+  pub sound : ∥ StoodFor capacity m (moment i) ∥₁
 
 -- A refused call alters nothing at all, unless it is an advance that has made steps before its refusal.
 abbrev pub Unaltered : Map → Inner → Answer → Map → Inner → Type 0

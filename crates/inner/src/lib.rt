@@ -1,7 +1,13 @@
-// What an engine keeps beside its store, and the moment of a service that this means. The definitions stand in specs/; here are
-// the types that they speak of. Rests on sheet and standing.
+// What an engine keeps beside its store, the moment of a service that this means, and the parts of a call that alter nothing else.
+// The definitions stand in specs/. Rests on sheet and standing.
 #![tactic(auto)]
 
+mod arith;
+mod inputs;
 mod kept;
+mod kinds;
+mod open;
+mod running;
+mod sheets;
 
 pub use kept::{CALLERS, INPUTS, Inner, State};

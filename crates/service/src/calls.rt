@@ -3,7 +3,7 @@ use engine::EngineFault;
 use inner::State;
 
 // The seven calls, and the four questions.
-#[derive(Drop)]
+#[derive(Drop, PartialEq, Eq, Debug)]
 pub enum Call {
     Load(Vec<u8>),
     Feed(Vec<u8>),
@@ -18,18 +18,19 @@ pub enum Call {
     State,
 }
 
-#[derive(Clone, Copy)]
-pub enum Answer {
+// What a call answers that is not refused.
+#[derive(Clone, Copy, PartialEq, Eq, Debug)]
+pub enum Reply {
     // to load, feed, fund and abandon
     Accepted,
     // to a step and to the question of the state
     Now(State),
     // to an advance: the steps made, and the state
     Advanced(u32, State),
-    // to a pull: a number of the result, or its end
-    Pulled(u32),
-    End,
+    // to a pull: a number of the result, or none at its end
+    Pulled(Option<u32>),
     // to the questions of price, free and held
     Counted(u32),
-    Refused(EngineFault),
 }
+
+pub type Answer = Result<Reply, EngineFault>;

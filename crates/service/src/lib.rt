@@ -3,4 +3,4 @@
 
 mod calls;
 
-pub use calls::{Answer, Call};
+pub use calls::{Answer, Call, Reply};

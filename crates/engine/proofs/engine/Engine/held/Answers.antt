@@ -1,15 +1,12 @@
-use Rattle.std.proofs.Common.{sym, refl, subst}
-use Rattle.plain.specs.Calls.{ask_held, counted}
+use Rattle.plain.specs.Calls.{ask_held}
 use Rattle.inner.proofs.Opening.{held_does}
-use Rattle.engine.specs.Service.{cells_of, capacity_of, CallDoes}
-use Rattle.engine.proofs.Calls.{call_made, store_kept}
+use Rattle.engine.specs.Service.{cells_of, capacity_of}
+use Rattle.engine.proofs.Calls.{asked}
 use Rattle.engine.proofs.engine.Engine.held.Goals as goal
 
 pub returns : goal.returns
 returns g c =
     let M = g.S.Meaning in
-    let e = c.args.self.now in
-    let v = c.requires.in_service in
-    call_made M e e _ _ (g.S.Meaning.numbered e.store v.ok) (g.S.Meaning.within e.store v.ok) v
-    (subst (λ x. CallDoes M e ask_held (counted x) e) (sym c.held_now.ensures)
-    (store_kept M e e ask_held _ v.ok refl (held_does (capacity_of M e) (cells_of M e) e.inner v.serving.kept v.serving.fits)))
+    let e = c.args.self.now.works in
+    let v = c.args.self.now.in_service in
+    asked M e ask_held _ _ c.held.ensures v (held_does (capacity_of M e) (cells_of M e) e.inner v.kept v.fits)
