@@ -1,15 +1,8 @@
-use Rattle.std.proofs.Common.{subst}
 use Rattle.inner.specs.declared.kept.State.TheVariants.{Running}
-use Rattle.inner.specs.Meant.{Loaded}
 use Rattle.inner.proofs.Needed.{stands_due}
 use Rattle.inner.proofs.States.{told_same}
 use Rattle.engine.specs.Service.{cells_of, capacity_of}
 use Rattle.engine.proofs.works.Works.due.Goals as goal
-
-pub sheet-sheet-requires : goal.sheet-sheet-requires
-sheet-sheet-requires g c =
-    let i = c.args.self.now.inner in
-    record { loaded = subst (λ a. Loaded a i.sheet) (told_same i.state Running _ c.ne.ensures c.if-ne.false) c.requires.in_service.kept.loaded }
 
 pub step_at-requires : goal.step_at-requires
 step_at-requires g c =
