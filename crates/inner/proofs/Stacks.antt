@@ -3,10 +3,6 @@ use Rattle.std.proofs.Common.{◌≡◌, suc, ◌-◌, ◌<◌, List, [], ◌∷
 use Rattle.std.proofs.Math.Seq.{take-length}
 use Rattle.std.proofs.lemmas.List.{reverse-append}
 
--- one more at the end is on top
-pub newest_pushed : {X : Type 0} (xs : List X) (x : X) → reverse (xs ++ x ∷ []) ≡ x ∷ reverse xs
-newest_pushed xs x = reverse-append xs (x ∷ [])
-
 -- the newest of some is the last of them
 pub newest_top : {X : Type 0} (other : X) (xs : List X) → 0 < length xs →
     reverse xs ≡ get_or xs (length xs - 1) other ∷ reverse (take (length xs - 1) xs)
@@ -15,4 +11,4 @@ newest_top other xs some =
     let inside : n < length xs = omega arith in
     let all : suc n ≡ length xs = omega arith in
     let split : xs ≡ take n xs ++ get_or xs n other ∷ [] = sym (take-length xs) ∙ (ap (λ k. take k xs) (sym all) ∙ take-suc xs n other inside) in
-    ap reverse split ∙ newest_pushed (take n xs) (get_or xs n other)
+    ap reverse split ∙ reverse-append (take n xs) (get_or xs n other ∷ [])

@@ -16,7 +16,8 @@ use Rattle.inner.specs.declared.kept.State.TheVariants.{Running}
 use Rattle.inner.specs.Meant.{moment, sheet_of, suspended, frame_stack, no_frame, caller_limit, WellKept}
 use Rattle.inner.specs.Changes.{with_frame, with_call, with_return, with_result}
 use Rattle.inner.specs.Serving.{PriceFits, Unaltered, Does, ComesTo}
-use Rattle.inner.proofs.Stacks.{newest_pushed, newest_top}
+use Rattle.std.proofs.lemmas.List.{reverse-append}
+use Rattle.inner.proofs.Stacks.{newest_top}
 use Rattle.inner.proofs.Keeping.{frame_kept, call_kept, return_kept, result_kept}
 use Rattle.inner.proofs.Moments.{running_moment, done_moment}
 
@@ -89,7 +90,7 @@ module _ (capacity : ℕ) (m n : Map) (i : Inner) (a : Action) (due : ComesTo i 
   call_step callee caller j kept few e f =
       subst (λ x. Does capacity m i one_step (in_phase is_running) n x) (sym e)
       (goes_on_to (with_call i callee caller) (call_kept i kept callee caller few) due.running due.loaded
-      (f ∙ ap (λ fs. goes_on (callee ∷ fs) n) (sym (newest_pushed i.callers.items caller))))
+      (f ∙ ap (λ fs. goes_on (callee ∷ fs) n) (sym (reverse-append i.callers.items (caller ∷ [])))))
 
   -- a caller is resumed
   pub return_step : (x : Slot) (j : Inner) → WellKept i → 0 < length i.callers.items → j ≡ with_return i x →
