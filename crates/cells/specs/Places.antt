@@ -134,7 +134,8 @@ none_is_clear zero place = refl
 none_is_clear (suc n) zero = refl
 none_is_clear (suc n) (suc place) = none_is_clear n place
 
-none_empty : (n : ℕ) (rows : List Words) → numbered_from_one (replicate n false) rows ≡ empty
+-- no mark set holds no cell
+pub none_empty : (n : ℕ) (rows : List Words) → numbered_from_one (replicate n false) rows ≡ empty
 none_empty n rows = fun_ext at
   where
     at : (number : ℕ) → numbered_from_one (replicate n false) rows number ≡ None

@@ -6,7 +6,6 @@ use Rattle.cells.specs.declared.fault.StoreFault.{StoreFault}
 use Rattle.cells.specs.declared.prepend.PrependFault.{PrependFault}
 use Rattle.cells.specs.declared.prepend.PrependFault.TheVariants.{NoList, Store}
 use Rattle.cells.specs.declared.quota.Quota.{Quota}
-use Rattle.cells.specs.declared.store.Meaning.{Ghosts}
 use Rattle.cells.specs.Cells.{Map}
 use Rattle.cells.specs.Outcomes.{Placed, Refused}
 use Rattle.cells.specs.Quota.{quota_cells, quota_capacity, quota_code}
@@ -42,7 +41,7 @@ Outcome m capacity code element list (Ok node) m_after capacity_after = Prepende
 Outcome m capacity code element list (Err (NoList number)) m_after capacity_after = Missing m capacity list number m_after capacity_after
 Outcome m capacity code element list (Err (Store fault)) m_after capacity_after = Unplaced m capacity code list fault m_after capacity_after
 
--- the same of a quota over a store
-abbrev pub Prepends : {S : Type 0} {M : Ghosts S} → Quota S M → ℕ → ℕ → Result ℕ PrependFault → Quota S M → Type 0
-Prepends before element list answer after =
-    Outcome (quota_cells before) (quota_capacity before) (quota_code before) element list answer (quota_cells after) (quota_capacity after)
+-- the same of a quota, where `cells`, `capacity` and `code` give the meaning of the store below
+abbrev pub Prepends : {S : Type 0} → (S → Map) → (S → ℕ) → (S → ℕ) → Quota S → ℕ → ℕ → Result ℕ PrependFault → Quota S → Type 0
+Prepends cells capacity code before element list answer after =
+    Outcome (quota_cells cells before) (quota_capacity capacity before) (quota_code cells code before) element list answer (quota_cells cells after) (quota_capacity capacity after)

@@ -112,11 +112,14 @@ impl Meaning for Pool {
 
     ghost code = { λ _. pool_code };
 
-    ghost small = { λ _. pool_small };
+    // its type says all of it
+    ghost ok = { λ _. Unit };
 
-    ghost numbered = { pool_numbered };
+    ghost small = { λ _ _. pool_small };
 
-    ghost within = { pool_within };
+    ghost numbered = { λ pool _. pool_numbered pool };
+
+    ghost within = { λ pool _. pool_within pool };
 }
 
 impl CellStore for Pool {

@@ -1,6 +1,7 @@
 // An example of a layer above a quota: its own fault takes in the store's, through `From` and `?`.
 ghost use Rattle.std.specs.Prelude.{◌≡◌};
 ghost use Rattle.cells.specs.Prepend.{Prepends};
+ghost use Rattle.cells.specs.Quota.{QuotaOk};
 ghost use Rattle.cells.specs.declared.prepend.PrependFault.TheVariants.{Store};
 
 use super::fault::StoreFault;
@@ -35,7 +36,9 @@ pub fn prepend<S: CellStore>(
     element: u32,
     list: u32,
 ) -> Result<u32, PrependFault>
-    ensures { Prepends store.old element list result store.new }
+    requires { QuotaOk S.Meaning.ok S.Meaning.cells store.old }
+    ensures ok { QuotaOk S.Meaning.ok S.Meaning.cells store.new }
+    ensures prepended { Prepends S.Meaning.cells S.Meaning.capacity S.Meaning.code store.old element list result store.new }
 {
     if list != EMPTY_LIST && store.read(list).is_none() {
         return Err(PrependFault::NoList(list));

@@ -1,6 +1,6 @@
 // What a caller lends, and rows of calls in three orders on a store in lent cells.
 use crate::calls::{Filling, give_one, take_one};
-use cells::store::CellStore;
+use cells::store::{CellStore, Meaning};
 use cells::words::Words;
 use free_list::lent::LentCell;
 use std::process::Abort;
@@ -78,7 +78,10 @@ impl Order {
 
 /// Gives all cells in an order, each of which should be held with its own words.
 // Here and in the next the steps of an order are counted, and no slice is indexed.
-pub fn give_all<S: CellStore>(rt: &impl Abort, store: &mut S, order: Order, count: u16) {
+pub fn give_all<S: CellStore>(rt: &impl Abort, store: &mut S, order: Order, count: u16)
+    requires { S.Meaning.ok store.old }
+    ensures { S.Meaning.ok store.new }
+{
     for step in 0..count {
         let number = order.number_at(step, count);
         give_one(rt, store, LENT_FILLING, number);
@@ -87,7 +90,10 @@ pub fn give_all<S: CellStore>(rt: &impl Abort, store: &mut S, order: Order, coun
 }
 
 /// Takes all cells, which should come in the reverse of an order: the last one given is the first one taken.
-pub fn take_all<S: CellStore>(rt: &impl Abort, store: &mut S, order: Order, count: u16) {
+pub fn take_all<S: CellStore>(rt: &impl Abort, store: &mut S, order: Order, count: u16)
+    requires { S.Meaning.ok store.old }
+    ensures { S.Meaning.ok store.new }
+{
     for step in (0..count).rev() {
         take_one(rt, store, LENT_FILLING, order.number_at(step, count));
     }

@@ -59,6 +59,22 @@ fn the_smaller_limit_holds_in_a_pile(rt: HostRuntime) {
     take_up_to(&rt, &mut narrow, NUMBERS, 2);
 }
 
+/// Two quotas in a struct that is generic over the store below them.
+#[derive(Drop)]
+struct Pile<S: CellStore> {
+    quota: Quota<Quota<S>>,
+}
+
+#[test]
+fn a_struct_over_any_store_has_a_pile_over_it(rt: HostRuntime) {
+    let mut pile = Pile {
+        quota: Quota::new(Quota::new(Pool::new(), 2), 1),
+    };
+    counts(&rt, &pile.quota, 1, 0);
+    take_up_to(&rt, &mut pile.quota, NUMBERS, 1);
+    take_none(&rt, &mut pile.quota, NUMBERS, QUOTA_CODE);
+}
+
 #[test]
 fn a_fault_is_taken_in_by_the_layer_above(rt: HostRuntime) {
     let mut quota = Quota::new(Pool::new(), 2);

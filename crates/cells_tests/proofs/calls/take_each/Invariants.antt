@@ -1,0 +1,5 @@
+use Rattle.cells_tests.proofs.calls.take_each.Given as goal
+
+-- the store stays in order
+abbrev pub invariant-loop-number : goal.invariant-loop-number
+invariant-loop-number g l = g.S.Meaning.ok l.store
