@@ -4,14 +4,14 @@ ghost use Rattle.engine.specs.Rows.{Advanced};
 ghost use Rattle.engine.specs.Service.{CallMade, InService};
 ghost use Rattle.plain.specs.Calls.{advance as advance_by};
 
+use crate::engine::Engine;
 use crate::faults::EngineFault;
-use crate::works::Works;
 use cells::store::CellStore;
 use inner::State;
 
-impl<S: CellStore> Works<S> {
+impl<S: CellStore> Engine<S> {
     // At most n steps. Answers the steps made and the state.
-    pub(crate) fn advance(&mut self, n: u32) -> Result<(u32, State), EngineFault>
+    pub fn advance(&mut self, n: u32) -> Result<(u32, State), EngineFault>
         requires in_service { InService S.Meaning self.old }
         ensures made { CallMade S.Meaning self.old (advance_by n) (advance_answer result) self.new }
         ensures row { Advanced S.Meaning self.old n result self.new }

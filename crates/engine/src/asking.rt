@@ -1,17 +1,17 @@
 // The questions.
 ghost use Rattle.std.specs.Prelude.{◌≡◌};
-ghost use Rattle.cells.specs.Cells.{count, free as free_in};
-ghost use Rattle.engine.specs.Service.{InService, capacity_of, cells_of};
-ghost use Rattle.inner.specs.Meant.{moment};
+ghost use Rattle.engine.specs.Service.{CallMade, InService};
+ghost use Rattle.inner.specs.Meant.{moment, phase_of};
+ghost use Rattle.plain.specs.Calls.{ask_free, ask_held, ask_price, ask_state, counted, in_phase};
 ghost use Rattle.standing.specs.Serving.{price as price_at};
 
-use crate::works::Works;
+use crate::engine::Engine;
 use cells::store::CellStore;
 use inner::State;
 
-impl<S: CellStore> Works<S> {
-    // The price of a run on what is entered; 0 unless the engine is Open.
-    pub(crate) fn price(&self) -> u32
+impl<S: CellStore> Engine<S> {
+    // The price of a run on what is entered, as a number, which funding compares.
+    pub(crate) fn price_now(&self) -> u32
         requires in_service { InService S.Meaning self.now }
         ensures { result ≡ price_at (moment self.now.inner) }
     {
@@ -22,20 +22,33 @@ impl<S: CellStore> Works<S> {
         entry as u32 + self.inner.brought()
     }
 
-    pub(crate) fn free(&self) -> u32
-        ensures { result ≡ free_in (capacity_of S.Meaning self.now) (cells_of S.Meaning self.now) }
+    // The price of a run on what is entered; 0 unless the engine is Open.
+    pub fn price(&self) -> u32
+        requires in_service { InService S.Meaning self.now }
+        ensures { CallMade S.Meaning self.now ask_price (counted result) self.now }
+    {
+        self.price_now()
+    }
+
+    // How many cells are free.
+    pub fn free(&self) -> u32
+        requires in_service { InService S.Meaning self.now }
+        ensures { CallMade S.Meaning self.now ask_free (counted result) self.now }
     {
         self.store.free()
     }
 
-    pub(crate) fn held(&self) -> u32
-        ensures { result ≡ count (cells_of S.Meaning self.now) }
+    // How many cells are held.
+    pub fn held(&self) -> u32
+        requires in_service { InService S.Meaning self.now }
+        ensures { CallMade S.Meaning self.now ask_held (counted result) self.now }
     {
         self.store.held()
     }
 
-    pub(crate) fn state(&self) -> State
-        ensures { result ≡ self.now.inner.state }
+    pub fn state(&self) -> State
+        requires in_service { InService S.Meaning self.now }
+        ensures { CallMade S.Meaning self.now ask_state (in_phase (phase_of result)) self.now }
     {
         self.inner.state
     }

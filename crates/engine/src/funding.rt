@@ -3,14 +3,14 @@ ghost use Rattle.engine.specs.Answers.{acceptance};
 ghost use Rattle.engine.specs.Service.{CallMade, InService};
 ghost use Rattle.plain.specs.Calls.{fund as begin_run};
 
+use crate::engine::Engine;
 use crate::faults::EngineFault;
-use crate::works::Works;
 use cells::store::CellStore;
 use inner::State;
 
-impl<S: CellStore> Works<S> {
+impl<S: CellStore> Engine<S> {
     // Begins a run of function 0 on what is entered.
-    pub(crate) fn fund(&mut self) -> Result<(), EngineFault>
+    pub fn fund(&mut self) -> Result<(), EngineFault>
         requires in_service { InService S.Meaning self.old }
         ensures { CallMade S.Meaning self.old begin_run (acceptance result) self.new }
     {
@@ -21,7 +21,7 @@ impl<S: CellStore> Works<S> {
         if !self.inner.are_parameters(main.signature) {
             return Err(EngineFault::OtherParameters);
         }
-        let price = self.price();
+        let price = self.price_now();
         if self.store.free() < price {
             return Err(EngineFault::TooDear(price));
         }

@@ -10,7 +10,6 @@ mod loading;
 mod nodes;
 mod pulling;
 mod stepping;
-mod works;
 
 pub use engine::Engine;
 pub use faults::{EngineFault, FeedFault};

@@ -3,14 +3,14 @@ ghost use Rattle.engine.specs.Answers.{acceptance};
 ghost use Rattle.engine.specs.Service.{CallMade, InService};
 ghost use Rattle.plain.specs.Calls.{abandon as give_up, accepted, load as load_of};
 
+use crate::engine::Engine;
 use crate::faults::EngineFault;
-use crate::works::Works;
 use cells::store::CellStore;
 use sheet::check;
 
-impl<S: CellStore> Works<S> {
+impl<S: CellStore> Engine<S> {
     // Checks a sheet and keeps a copy of it, with no cell held and nothing entered.
-    pub(crate) fn load(&mut self, bytes: &[u8]) -> Result<(), EngineFault>
+    pub fn load(&mut self, bytes: &[u8]) -> Result<(), EngineFault>
         requires in_service { InService S.Meaning self.old }
         ensures { CallMade S.Meaning self.old (load_of bytes.now) (acceptance result) self.new }
     {
@@ -24,7 +24,7 @@ impl<S: CellStore> Works<S> {
     }
 
     // Drops input, run and result; the sheet stays.
-    pub(crate) fn abandon(&mut self)
+    pub fn abandon(&mut self)
         requires in_service { InService S.Meaning self.old }
         ensures { CallMade S.Meaning self.old give_up accepted self.new }
     {

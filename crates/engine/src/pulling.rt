@@ -3,16 +3,16 @@ ghost use Rattle.engine.specs.Answers.{pull_answer};
 ghost use Rattle.engine.specs.Service.{CallMade, InService};
 ghost use Rattle.plain.specs.Calls.{pull as next_number};
 
+use crate::engine::Engine;
 use crate::faults::EngineFault;
 use crate::nodes::taken_apart;
-use crate::works::Works;
 use cells::store::CellStore;
 use inner::State;
 use standing::Slot;
 
-impl<S: CellStore> Works<S> {
+impl<S: CellStore> Engine<S> {
     // The next number of the result, whose cell is given back; None at its end, and then the engine is Open with nothing entered.
-    pub(crate) fn pull(&mut self) -> Result<Option<u32>, EngineFault>
+    pub fn pull(&mut self) -> Result<Option<u32>, EngineFault>
         requires in_service { InService S.Meaning self.old }
         ensures { CallMade S.Meaning self.old next_number (pull_answer result) self.new }
     {

@@ -4,14 +4,14 @@ ghost use Rattle.engine.specs.Service.{CallDoes, CallMade, InService};
 ghost use Rattle.inner.specs.Serving.{ComesTo, Due};
 ghost use Rattle.plain.specs.Calls.{one_step};
 
+use crate::engine::Engine;
 use crate::faults::EngineFault;
-use crate::works::Works;
 use cells::store::CellStore;
 use inner::State;
 use records::Step;
 use standing::Slot;
 
-impl<S: CellStore> Works<S> {
+impl<S: CellStore> Engine<S> {
     // The step that the newest frame has come to, while a run is on. One stands there, so nothing of the sheet is tested again.
     fn due(&self) -> Option<Step>
         requires in_service { InService S.Meaning self.now }
@@ -72,7 +72,7 @@ impl<S: CellStore> Works<S> {
     }
 
     // One step of the run, and the state after it.
-    pub(crate) fn step(&mut self) -> Result<State, EngineFault>
+    pub fn step(&mut self) -> Result<State, EngineFault>
         requires in_service { InService S.Meaning self.old }
         ensures { CallMade S.Meaning self.old one_step (step_answer result) self.new }
     {

@@ -1,10 +1,10 @@
 -- Calls that the state excludes: they are refused and alter nothing. Rests on the moments of each state.
 use Rattle.std.proofs.Common.{◌≡◌, ℕ, true, List, is_some, Some, None, Option, sym, refl, ap, ◌∙◌, arith}
 use Rattle.cells.specs.Cells.{Map, Numbered}
-use Rattle.plain.specs.Calls.{Phase, is_bare, is_open, is_running, is_done, excluded, advance_excluded, refused_with, feed, one_step, advance}
+use Rattle.plain.specs.Calls.{Phase, is_bare, is_open, is_running, is_done, excluded, advance_excluded, refused_with, load, feed, fund, one_step, advance, pull}
 use Rattle.sheet.specs.declared.passed.Sheet.{Sheet as LoadedSheet}
 use Rattle.standing.specs.Moments.{Moment, bare, open_with, running_with, done_with, phase}
-use Rattle.standing.specs.Serving.{refuse, feed_on_words, one_step_on_words}
+use Rattle.standing.specs.Serving.{refuse, load_on_words, feed_on_words, fund_on_words, one_step_on_words, pull_on_words}
 use Rattle.standing.specs.Calls.{AdvancesFrom}
 use Rattle.inner.specs.declared.kept.Inner.{Inner}
 use Rattle.inner.specs.declared.kept.State.{State}
@@ -55,6 +55,12 @@ feed_outside capacity (open_with s es) m k bytes h = absurd (h refl)
 feed_outside capacity (running_with s fs) m k bytes h = refl
 feed_outside capacity (done_with s x) m k bytes h = refl
 
+fund_outside : (capacity : ℕ) (w : Moment) (m : Map) → (phase w ≡ is_open → ⊥) → fund_on_words capacity w m ≡ refuse excluded w m
+fund_outside capacity bare m h = refl
+fund_outside capacity (open_with s es) m h = absurd (h refl)
+fund_outside capacity (running_with s fs) m h = refl
+fund_outside capacity (done_with s x) m h = refl
+
 step_outside : (w : Moment) (m : Map) (k : ℕ) → (phase w ≡ is_running → ⊥) → one_step_on_words w m k ≡ refuse excluded w m
 step_outside bare m k h = refl
 step_outside (open_with s es) m k h = refl
@@ -67,7 +73,23 @@ advance_outside (open_with s es) m n h = refl
 advance_outside (running_with s fs) m n h = absurd (h refl)
 advance_outside (done_with s x) m n h = refl
 
+pull_outside : (w : Moment) (m : Map) → (phase w ≡ is_done → ⊥) → pull_on_words w m ≡ refuse excluded w m
+pull_outside bare m h = refl
+pull_outside (open_with s es) m h = refl
+pull_outside (running_with s fs) m h = refl
+pull_outside (done_with s x) m h = absurd (h refl)
+
+load_outside : (w : Moment) (m : Map) (bytes : List ℕ) → (phase w ≡ is_bare → ⊥) → (phase w ≡ is_open → ⊥) → load_on_words w m bytes ≡ refuse excluded w m
+load_outside bare m bytes h g = absurd (h refl)
+load_outside (open_with s es) m bytes h g = absurd (g refl)
+load_outside (running_with s fs) m bytes h g = refl
+load_outside (done_with s x) m bytes h g = refl
+
 module _ (capacity : ℕ) (m : Map) (i : Inner) (kept : WellKept i) (fits : PriceFits (moment i) m) where
+  pub load_excluded : (bytes : List ℕ) → (i.state ≡ Bare → ⊥) → (i.state ≡ Open → ⊥) → Does capacity m i (load bytes) (refused_with excluded) m i
+  load_excluded bytes h g =
+      record { kept = kept; fits = fits; did = sym (load_outside (moment i) m bytes (not_in i Bare kept h) (not_in i Open kept g)); unaltered = same_unaltered m i _ }
+
   pub feed_excluded : (bytes : List ℕ) → Numbered m → (i.state ≡ Open → ⊥) → Does capacity m i (feed bytes) (refused_with excluded) m i
   feed_excluded bytes numbered h =
       record {
@@ -76,6 +98,9 @@ module _ (capacity : ℕ) (m : Map) (i : Inner) (kept : WellKept i) (fits : Pric
         did = record { number = 65536; takeable = beyond_all numbered; is = sym (feed_outside capacity (moment i) m 65536 bytes (not_in i Open kept h)) };
         unaltered = same_unaltered m i _;
       }
+
+  pub fund_excluded : (i.state ≡ Open → ⊥) → Does capacity m i fund (refused_with excluded) m i
+  fund_excluded h = record { kept = kept; fits = fits; did = sym (fund_outside capacity (moment i) m (not_in i Open kept h)); unaltered = same_unaltered m i _ }
 
   pub step_excluded : Numbered m → (i.state ≡ Running → ⊥) → Does capacity m i one_step (refused_with excluded) m i
   step_excluded numbered h =
@@ -88,6 +113,9 @@ module _ (capacity : ℕ) (m : Map) (i : Inner) (kept : WellKept i) (fits : Pric
 
   pub advance_is_excluded : (n : ℕ) → (i.state ≡ Running → ⊥) → Does capacity m i (advance n) (refused_with advance_excluded) m i
   advance_is_excluded n h = record { kept = kept; fits = fits; did = advance_outside (moment i) m n (not_in i Running kept h); unaltered = same_unaltered m i _ }
+
+  pub pull_excluded : (i.state ≡ Done → ⊥) → Does capacity m i pull (refused_with excluded) m i
+  pull_excluded h = record { kept = kept; fits = fits; did = sym (pull_outside (moment i) m (not_in i Done kept h)); unaltered = same_unaltered m i _ }
 
 -- there is a sheet in every state but Bare
 there : (o : Option LoadedSheet) → is_some o ≡ true → (s : LoadedSheet) × (o ≡ Some s)

@@ -4,7 +4,7 @@ use Rattle.std.specs.List.{list_all, zip}
 use borrow.Author.Tests.{lt-leb}
 use Rattle.cells.specs.Cells.{Map, free}
 use Rattle.rules.specs.Tests.{both}
-use Rattle.plain.specs.Calls.{fund, accepted, refused_with, other_parameters, too_dear}
+use Rattle.plain.specs.Calls.{fund, accepted, refused_with, other_parameters, too_dear, excluded}
 use Rattle.plain.specs.Feeding.{same_numbers}
 use Rattle.sheet.specs.declared.passed.Sheet.{Sheet as LoadedSheet}
 use Rattle.standing.specs.Moments.{running_with}
@@ -13,11 +13,12 @@ use Rattle.inner.specs.declared.kept.Inner.{Inner}
 use Rattle.inner.specs.declared.kept.State.TheVariants.{Open}
 use Rattle.inner.specs.Meant.{moment, sheet_of, input_stack, WellKept}
 use Rattle.inner.specs.Changes.{started}
-use Rattle.inner.proofs.Outcomes.{Funds, FundMistaken, FundUnpaid}
+use Rattle.inner.proofs.Outcomes.{Funds, FundMistaken, FundUnpaid, ExcludedFrom}
 use Rattle.inner.specs.Serving.{PriceFits, Does}
 use Rattle.inner.proofs.Keeping.{started_kept}
 use Rattle.inner.proofs.Moments.{open_moment, running_moment}
 use Rattle.inner.proofs.Stepping.{told_alters, same_unaltered, is_there}
+use Rattle.inner.proofs.Excluded.{fund_excluded}
 use Rattle.inner.proofs.Opening.{same_does}
 
 -- rows of other lengths are not the same
@@ -95,3 +96,6 @@ module _ (capacity : ℕ) (m : Map) (i : Inner) (kept : WellKept i) where
           did = sym (fund_at x.sheet true false x.is_open x.loaded x.parameters (lt-leb (price (moment i)) (free capacity m) x.unpaid));
           unaltered = same_unaltered m i _;
         }))
+
+    pub fund_excluded_does : (n : Map) (j : Inner) → ExcludedFrom Open m i n j → Does capacity m i fund (refused_with excluded) n j
+    fund_excluded_does n j x = same_does capacity m i kept fits fund (refused_with excluded) x.same (fund_excluded capacity m i kept fits x.other_state)

@@ -2,7 +2,6 @@ pub mod States
 pub mod Outcomes
 pub mod Stacks
 pub mod Keeping
-pub mod Once
 pub mod Moments
 pub mod Excluded
 pub mod Needed

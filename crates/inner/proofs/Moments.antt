@@ -1,6 +1,5 @@
 -- The moments that an engine means in each state, and that a call keeps it in service. Rests on the theorem about one call.
 use Rattle.std.proofs.Common.{◌≡◌, ℕ, ◌≤◌, Some, Option, refl, ap, ◌∙◌}
-use mathlib.Core.Logic.{∥∥₁_map}
 use Rattle.cells.specs.Cells.{Map, Numbered, count}
 use Rattle.plain.specs.Calls.{Request, Answer}
 use Rattle.plain.specs.Service.{serve, state_after}
@@ -40,12 +39,5 @@ stood_for capacity m n i j r a numbered within does s stands sound =
 pub still_serving : (capacity : ℕ) (m n : Map) (i j : Inner) (r : Request) (a : Answer) → Numbered m → count m ≤ capacity → Serving capacity m i →
     Does capacity m i r a n j → Serving capacity n j
 still_serving capacity m n i j r a numbered within v does =
-    record {
-      kept = does.kept;
-      fits = does.fits;
-      sound =
-          ∥∥₁_map v.sound
-          (λ b.
-          let x = stood_for capacity m n i j r a numbered within does b.state b.stands b.sound in
-          record { state = state_after capacity b.state r; stands = x.stands; sound = x.sound });
-    }
+    let x = stood_for capacity m n i j r a numbered within does v.state v.stands v.sound in
+    record { kept = does.kept; fits = does.fits; state = state_after capacity v.state r; stands = x.stands; sound = x.sound }

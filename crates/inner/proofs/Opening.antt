@@ -1,8 +1,9 @@
 -- That loading, giving up and asking do what they do on words. Rests on the moments of each state.
 use Rattle.std.proofs.Common.{◌≡◌, ℕ, true, false, List, [], reverse, Some, None, Option, sym, refl, ap, ◌∙◌, subst, arith}
+use Rattle.records.specs.declared.faults.Fault.{Fault}
 use Rattle.rules.specs.Verdict.{verdict}
 use Rattle.cells.specs.Cells.{Map, empty, count, free}
-use Rattle.plain.specs.Calls.{Request, Answer, accepted, counted, load, abandon, ask_price, ask_free, ask_held}
+use Rattle.plain.specs.Calls.{Request, Answer, accepted, bad_sheet, excluded, refused_with, counted, in_phase, load, abandon, ask_price, ask_free, ask_held, ask_state}
 use Rattle.sheet.specs.declared.passed.Sheet.{Sheet as LoadedSheet}
 use Rattle.sheet.specs.Sheets.{sheet_tables}
 use Rattle.standing.specs.Moments.{open_with}
@@ -10,13 +11,14 @@ use Rattle.standing.specs.Serving.{done, loaded, load_on_words, abandon_on_words
 use Rattle.inner.specs.declared.kept.Inner.{Inner}
 use Rattle.inner.specs.declared.kept.State.{State}
 use Rattle.inner.specs.declared.kept.State.TheVariants.{Bare, Open, Running, Done}
-use Rattle.inner.specs.Meant.{moment, moment_in, sheet_of, admits_load, Loaded, WellKept}
+use Rattle.inner.specs.Meant.{moment, moment_in, sheet_of, phase_of, admits_load, Loaded, WellKept}
 use Rattle.inner.specs.Changes.{opened, opened_with, abandoned, abandoned_in}
-use Rattle.inner.proofs.Outcomes.{Same, Loads}
+use Rattle.inner.proofs.Outcomes.{Same, Loads, LoadRefused, LoadExcluded}
 use Rattle.inner.specs.Serving.{PriceFits, Does}
 use Rattle.inner.proofs.Keeping.{opened_kept, opened_with_kept}
 use Rattle.inner.proofs.Moments.{bare_moment, open_moment, running_moment, done_moment}
 use Rattle.inner.proofs.Stepping.{told_alters, same_unaltered, is_there}
+use Rattle.inner.proofs.Excluded.{load_excluded, phase_kept}
 
 false_is_true : false ≡ true → ⊥
 false_is_true e = let z : ◌≡◌ {A = ℕ} 0 1 = cc in omega arith
@@ -56,6 +58,23 @@ module _ (capacity : ℕ) (m : Map) (i : Inner) (kept : WellKept i) where
     pub same_does : {n : Map} {j : Inner} (r : Request) (a : Answer) → Same m i n j → Does capacity m i r a m i → Does capacity m i r a n j
     same_does {n} {j} r a same d = subst (λ y. Does capacity m i r a n y) (sym same.inner) (subst (λ c. Does capacity m i r a c i) (sym same.cells) d)
 
+    pub load_refused_does : (bytes : List ℕ) (f : Fault) (n : Map) (j : Inner) → LoadRefused m i bytes f n j →
+        Does capacity m i (load bytes) (refused_with (bad_sheet f)) n j
+    load_refused_does bytes f n j x =
+        same_does (load bytes) (refused_with (bad_sheet f)) x.same
+        (record {
+          kept = kept;
+          fits = fits;
+          did = sym (load_at i.state i.sheet i m bytes x.admitted ∙ ap (λ v. loaded bytes v (moment i) m) x.failed);
+          unaltered = same_unaltered m i _;
+        })
+
+    pub load_excluded_does : (bytes : List ℕ) (n : Map) (j : Inner) → LoadExcluded m i n j → Does capacity m i (load bytes) (refused_with excluded) n j
+    load_excluded_does bytes n j x =
+        same_does (load bytes) (refused_with excluded) x.same
+        (load_excluded capacity m i kept fits bytes (λ q. false_is_true (sym x.not_admitted ∙ ap admits_load q))
+        (λ q. false_is_true (sym x.not_admitted ∙ ap admits_load q)))
+
     pub price_does : Does capacity m i ask_price (counted (price (moment i))) m i
     price_does = record { kept = kept; fits = fits; did = refl; unaltered = same_unaltered m i _ }
 
@@ -64,6 +83,10 @@ module _ (capacity : ℕ) (m : Map) (i : Inner) (kept : WellKept i) where
 
     pub held_does : Does capacity m i ask_held (counted (count m)) m i
     held_does = record { kept = kept; fits = fits; did = refl; unaltered = same_unaltered m i _ }
+
+    pub state_does : Does capacity m i ask_state (in_phase (phase_of i.state)) m i
+    state_does =
+        record { kept = kept; fits = fits; did = ap (λ p. done (in_phase p) (moment i) m) (sym (phase_kept i kept)); unaltered = same_unaltered m i _ }
 
     -- giving up where there is a sheet
     from_loaded : (s : LoadedSheet) → i.sheet ≡ Some s → abandon_on_words (moment i) ≡ done accepted (open_with (sheet_of s) []) empty →

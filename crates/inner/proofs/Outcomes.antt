@@ -1,6 +1,7 @@
 -- What the code of the calls that are no steps leaves in what an engine keeps and in its cells. m and i are before the call, n and j behind it.
 -- Rests on changes of what an engine keeps, and on the verdict.
-use Rattle.std.specs.Prelude.{◌≡◌, ℕ, ◌<◌, ◌≤◌, true, false, List, Some, Ok}
+use Rattle.std.specs.Prelude.{◌≡◌, ℕ, ◌<◌, ◌≤◌, true, false, List, Some, Ok, Err}
+use Rattle.records.specs.declared.faults.Fault.{Fault}
 use Rattle.cells.specs.Cells.{Map, empty, without, free}
 use Rattle.rules.specs.Verdict.{verdict}
 use Rattle.sheet.specs.declared.passed.Sheet.{Sheet as LoadedSheet}
@@ -8,6 +9,7 @@ use Rattle.sheet.specs.Sheets.{bytes_of, sheet_tables}
 use Rattle.standing.specs.declared.frames.Slot.TheVariants.{ListOf}
 use Rattle.standing.specs.Stepping.{slot_word, slot_type, words_in}
 use Rattle.inner.specs.declared.kept.Inner.{Inner}
+use Rattle.inner.specs.declared.kept.State.{State}
 use Rattle.inner.specs.declared.kept.State.TheVariants.{Open, Done}
 use Rattle.standing.specs.Serving.{are_parameters, first_frame, price}
 use Rattle.inner.specs.Meant.{admits_load, sheet_of, input_stack, moment}
@@ -27,6 +29,16 @@ pub record Loads (m : Map) (i : Inner) (bytes : List ℕ) (n : Map) (j : Inner) 
   pub inner : j ≡ opened_with i sheet
   pub cells : n ≡ empty
 
+-- a sheet that did not pass is not
+pub record LoadRefused (m : Map) (i : Inner) (bytes : List ℕ) (f : Fault) (n : Map) (j : Inner) : Type 0 where
+  pub admitted : admits_load i.state ≡ true
+  pub failed : verdict bytes ≡ Err f
+  pub same : Same m i n j
+
+pub record LoadExcluded (m : Map) (i : Inner) (n : Map) (j : Inner) : Type 0 where
+  pub not_admitted : admits_load i.state ≡ false
+  pub same : Same m i n j
+
 -- a number is pulled, and its cell given back
 pub record Pulls (m : Map) (i : Inner) (x : ℕ) (n : Map) (j : Inner) : Type 0 where
   pub is_done : i.state ≡ Done
@@ -41,6 +53,10 @@ pub record PullEnds (m : Map) (i : Inner) (n : Map) (j : Inner) : Type 0 where
   pub no_word : slot_word i.result ≡ 0
   pub inner : j ≡ opened i
   pub cells : n ≡ m
+
+pub record ExcludedFrom (a : State) (m : Map) (i : Inner) (n : Map) (j : Inner) : Type 0 where
+  pub other_state : i.state ≡ a → ⊥
+  pub same : Same m i n j
 
 -- function 0 starts on what is entered
 pub record Funds (capacity : ℕ) (m : Map) (i : Inner) (n : Map) (j : Inner) : Type 0 where

@@ -1,10 +1,8 @@
 -- That a pull does what it does on words, and finds its node. Rests on the moment of a result.
 use Rattle.std.proofs.Common.{◌≡◌, ℕ, Bool, true, false, cond, eqb, [], is_some, Some, sym, refl, ap, ◌∙◌, subst, arith, eq-eqb, ne_eqb}
-use mathlib.Core.Bool.{Bool-set}
-use mathlib.Core.Logic.{∥∥₁_elim}
 use Rattle.cells.specs.Cells.{Map}
 use Rattle.plain.specs.Values.{Value}
-use Rattle.plain.specs.Calls.{pull, pulled, at_end}
+use Rattle.plain.specs.Calls.{pull, pulled, at_end, excluded, refused_with}
 use Rattle.plain.specs.States.{Sheet, State}
 use Rattle.plain.specs.Funded.{Numbers, no_numbers, one_number}
 use Rattle.sheet.specs.declared.passed.Sheet.{Sheet as LoadedSheet}
@@ -22,13 +20,13 @@ use Rattle.inner.specs.declared.kept.State.{State as EngineState}
 use Rattle.inner.specs.declared.kept.State.TheVariants.{Bare, Done}
 use Rattle.inner.specs.Meant.{moment, sheet_of, WellKept}
 use Rattle.inner.specs.Changes.{opened, with_result}
-use Rattle.inner.proofs.Outcomes.{Pulls, PullEnds}
+use Rattle.inner.proofs.Outcomes.{Pulls, PullEnds, ExcludedFrom}
 use Rattle.inner.specs.Serving.{PriceFits, Serving, Does}
 use Rattle.inner.proofs.Keeping.{result_kept, opened_kept}
 use Rattle.inner.proofs.Moments.{open_moment, done_moment}
 use Rattle.inner.proofs.Stepping.{told_alters, is_there}
-use Rattle.inner.proofs.Excluded.{loaded_sheet}
-use Rattle.inner.proofs.Opening.{open_fits}
+use Rattle.inner.proofs.Excluded.{pull_excluded, loaded_sheet}
+use Rattle.inner.proofs.Opening.{open_fits, same_does}
 
 -- a list of Numbers whose word is not 0 has a node, which is stored and so held
 held_of : {m : Map} {x : Located} {v : Value} → Stored m x → Numbers v → value x ≡ v → (word x ≡ 0 → ⊥) → is_some (m (word x)) ≡ true
@@ -51,8 +49,7 @@ pub result_held : (capacity : ℕ) (m : Map) (i : Inner) → Serving capacity m 
     is_some (m (slot_word i.result)) ≡ true
 result_held capacity m i v p h =
     let l = loaded_sheet i v.kept (not_bare i.state p) in
-    ∥∥₁_elim v.sound (Bool-set (is_some (m (slot_word i.result))) true)
-    (λ b. held_result (subst (λ w. Stands m w b.state) (done_moment i l.0 p l.1) b.stands) b.sound h)
+    held_result (subst (λ w. Stands m w v.state) (done_moment i l.0 p l.1) v.stands) v.sound h
 
 module _ (capacity : ℕ) (m : Map) (i : Inner) (kept : WellKept i) where
   -- a pull from a result, by whether its word is 0
@@ -96,3 +93,6 @@ module _ (capacity : ℕ) (m : Map) (i : Inner) (kept : WellKept i) where
             sym (pull_at s true r.is_done l.1 (eq-eqb (slot_word i.result) 0 r.no_word)));
         unaltered = told_alters at_end tt;
       })
+
+  pub pull_excluded_does : (n : Map) (j : Inner) → PriceFits (moment i) m → ExcludedFrom Done m i n j → Does capacity m i pull (refused_with excluded) n j
+  pull_excluded_does n j fits x = same_does capacity m i kept fits pull (refused_with excluded) x.same (pull_excluded capacity m i kept fits x.other_state)

@@ -38,12 +38,13 @@ pub record StoodFor (capacity : ℕ) (m : Map) (w : Moment) : Type 0 where
   pub stands : Stands m w state
   pub sound : Sound capacity state
 
--- It is well kept, and stands for a sound state of the plain service. The fact says that there is one, and not which, so that it has
--- at most one proof and can stand in a type.
+-- it is well kept, and stands for a sound state of the plain service
 pub record Serving (capacity : ℕ) (m : Map) (i : Inner) : Type 0 where
   pub kept : WellKept i
   pub fits : PriceFits (moment i) m
-  pub sound : ∥ StoodFor capacity m (moment i) ∥₁
+  pub state : State
+  pub stands : Stands m (moment i) state
+  pub sound : Sound capacity state
 
 -- A refused call alters nothing at all, unless it is an advance that has made steps before its refusal.
 abbrev pub Unaltered : Map → Inner → Answer → Map → Inner → Type 0

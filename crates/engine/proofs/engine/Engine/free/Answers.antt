@@ -7,6 +7,6 @@ use Rattle.engine.proofs.engine.Engine.free.Goals as goal
 pub returns : goal.returns
 returns g c =
     let M = g.S.Meaning in
-    let e = c.args.self.now.works in
-    let v = c.args.self.now.in_service in
-    asked M e ask_free _ _ c.free.ensures v (free_does (capacity_of M e) (cells_of M e) e.inner v.kept v.fits)
+    let e = c.args.self.now in
+    let v = c.requires.in_service in
+    asked M e ask_free _ _ c.free.ensures v (free_does (capacity_of M e) (cells_of M e) e.inner v.serving.kept v.serving.fits)

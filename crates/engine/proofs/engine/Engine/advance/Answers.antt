@@ -11,12 +11,13 @@ use Rattle.engine.specs.Service.{cells_of, CallMade}
 use Rattle.engine.specs.Rows.{Advanced}
 use Rattle.engine.proofs.Mapped.{value_before, error_before}
 use Rattle.engine.proofs.Rows.{none_passed, one_passed, excluded_advance, full_advance, ended_advance, refused_advance}
-use Rattle.engine.proofs.works.Works.advance.Goals as goal
+use Rattle.engine.proofs.engine.Engine.advance.Goals as goal
 
-pub returns-then-ne-clause-row : goal.returns-then-ne-clause-row
-returns-then-ne-clause-row g c =
+pub returns-then-ne : goal.returns-then-ne
+returns-then-ne g c =
     let e = c.args.self.now in
-    (excluded_advance g.S.Meaning c.args.n e c.requires.in_service (told_other e.inner.state Running _ c.ne.ensures c.if-ne.true)).1
+    let both = excluded_advance g.S.Meaning c.args.n e c.requires.in_service (told_other e.inner.state Running _ c.ne.ensures c.if-ne.true) in
+    record { made = both.0; row = both.1 }
 
 pub loop-made-init : goal.loop-made-init
 loop-made-init g c =
@@ -35,13 +36,13 @@ loop-made-preserved g c =
     let a = c.in_ok-state.state in
     let was = value_before _ c.map_err.result c.step.result c.map_err.ensures.cases a c.in_ok-state.was in
     let step = subst (λ r. CallMade M f one_step (step_answer r) h) was c.step.ensures in
-    let on = run_is_on f.inner inv.in_service.kept inv.running in
+    let on = run_is_on f.inner inv.in_service.serving.kept inv.running in
     let is =
     still_running a (answers_by (cells_of M f) (phase_of a) (moment h.inner) (cells_of M h) on step.did) (told_unequal a Done _ c.eq.ensures c.if-eq.false) in
     let went = subst (λ b. CallMade M f one_step (in_phase (phase_of b)) h) is step in
     record {
       in_service = step.in_service;
-      running = state_behind_step (cells_of M f) f.inner h.inner Running (cells_of M h) inv.in_service.kept step.in_service.kept inv.running went.did;
+      running = state_behind_step (cells_of M f) f.inner h.inner Running (cells_of M h) inv.in_service.serving.kept step.in_service.serving.kept inv.running went.did;
       passed =
           one_passed M c.args.n c.args.self.now f h c.loop-made.made-counter inv.in_service inv.running c.loop-made-test.true inv.passed went;
     }
@@ -75,7 +76,7 @@ returns-in_err-state g c =
     let step = subst (λ r. CallMade M f one_step (step_answer r) h) was.1 c.step.ensures in
     let deep =
     subst (λ x. CallMade M f one_step (refused_with x) h)
-    (refused_for_depth (cells_of M f) _ (moment h.inner) (cells_of M h) (run_is_on f.inner inv.in_service.kept inv.running) step.did) step in
+    (refused_for_depth (cells_of M f) _ (moment h.inner) (cells_of M h) (run_is_on f.inner inv.in_service.serving.kept inv.running) step.did) step in
     let both =
     refused_advance M c.args.n e v
     f c.loop-made.made-counter inv.in_service inv.running inv.passed h c.loop-made-test.true deep in

@@ -14,20 +14,20 @@ use Rattle.inner.specs.Kinds.{KnownFunction, KnownType, function_in, called}
 use Rattle.inner.specs.Serving.{ComesTo}
 use Rattle.inner.proofs.Needed.{Finds, finds}
 use Rattle.inner.proofs.ByKind.{const_does, arith_does, empty_does, cons_does, call_does, match_does, if_does, deep_does, return_does}
-use Rattle.engine.specs.declared.works.Works.{Works}
+use Rattle.engine.specs.declared.engine.Engine.{Engine}
 use Rattle.engine.specs.Service.{cells_of, capacity_of, InService}
 use Rattle.engine.proofs.Calls.{store_kept}
-use Rattle.engine.proofs.works.Works.make.Given.{Over}
-use Rattle.engine.proofs.works.Works.make.Goals as goal
+use Rattle.engine.proofs.engine.Engine.make.Given.{Over}
+use Rattle.engine.proofs.engine.Engine.make.Goals as goal
 use Rattle.records.specs.declared.kinds.Step.{Step as Action}
 
 -- what the step finds that is due
-found : (g : Over) (e : Works g.row.S.Denot) (a : Action) → InService g.S.Meaning e → (due : ComesTo e.inner a) →
+found : (g : Over) (e : Engine g.row.S.Denot) (a : Action) → InService g.S.Meaning e → (due : ComesTo e.inner a) →
     Finds (capacity_of g.S.Meaning e) (cells_of g.S.Meaning e) e.inner due.sheet a
-found g e a v due = finds (capacity_of g.S.Meaning e) (cells_of g.S.Meaning e) e.inner a (g.S.Meaning.numbered e.store) v due
+found g e a v due = finds (capacity_of g.S.Meaning e) (cells_of g.S.Meaning e) e.inner a (g.S.Meaning.numbered e.store v.ok) v.serving due
 
 -- the ranges of its fields, by its kind
-ranges : (g : Over) (e : Works g.row.S.Denot) (a x : Action) → InService g.S.Meaning e → (due : ComesTo e.inner a) → a ≡ x →
+ranges : (g : Over) (e : Engine g.row.S.Denot) (a x : Action) → InService g.S.Meaning e → (due : ComesTo e.inner a) → a ≡ x →
     Fields (program_of (sheet_of due.sheet)) x
 ranges g e a x v due is = subst (Fields (program_of (sheet_of due.sheet))) is (found g e a v due).fields
 
@@ -71,7 +71,7 @@ pub cons-requires : goal.cons-requires
 cons-requires g c =
     let f = ranges g c.args.self.now c.args.step _ c.requires.in_service c.requires.due c.in-Cons.is in
     let room = subst (λ x. charge x ≤ free (capacity_of g.S.Meaning c.args.self.now) (cells_of g.S.Meaning c.args.self.now)) c.in-Cons.is (found g c.args.self.now c.args.step c.requires.in_service c.requires.due).room in
-    record { slots = (f.0, f.2, f.3); room = omega arith }
+    record { ok = c.requires.in_service.ok; slots = (f.0, f.2, f.3); room = omega arith }
 
 pub function-callee-requires : goal.function-callee-requires
 function-callee-requires g c =
@@ -103,6 +103,7 @@ pub match_list-requires : goal.match_list-requires
 match_list-requires g c =
     let f = found g c.args.self.now c.args.step c.requires.in_service c.requires.due in
     record {
+      ok = c.requires.in_service.ok;
       slots = ranges g c.args.self.now c.args.step _ c.requires.in_service c.requires.due c.in-Match.is;
       apart = λ h.
           let t = f.node c.in-Match.a c.in-Match.h c.in-Match.l c.in-Match.second c.in-Match.is h in
@@ -120,8 +121,8 @@ returns-in-Const g c =
     let M = g.S.Meaning in
     let e = c.args.self.now in
     let v = c.requires.in_service in
-    store_kept M e _ one_step _ refl
-    (const_does (capacity_of M e) (cells_of M e) e.inner c.args.step c.requires.due (g.S.Meaning.numbered e.store) v.kept
+    store_kept M e _ one_step _ v.ok refl
+    (const_does (capacity_of M e) (cells_of M e) e.inner c.args.step c.requires.due (g.S.Meaning.numbered e.store v.ok) v.serving.kept
     (e.inner.frame.next + c.size.result) (ap (λ n. e.inner.frame.next + n) c.size.ensures) _ _ c.bind.new.self c.in-Const.is c.bind.ensures)
 
 pub returns-in-Arith : goal.returns-in-Arith
@@ -129,8 +130,8 @@ returns-in-Arith g c =
     let M = g.S.Meaning in
     let e = c.args.self.now in
     let v = c.requires.in_service in
-    store_kept M e _ one_step _ refl
-    (arith_does (capacity_of M e) (cells_of M e) e.inner c.args.step c.requires.due (g.S.Meaning.numbered e.store) v.kept
+    store_kept M e _ one_step _ v.ok refl
+    (arith_does (capacity_of M e) (cells_of M e) e.inner c.args.step c.requires.due (g.S.Meaning.numbered e.store v.ok) v.serving.kept
     (e.inner.frame.next + c.size.result) (ap (λ n. e.inner.frame.next + n) c.size.ensures) _ _ _ _ c.arith.new.self c.in-Arith.is c.arith.ensures)
 
 pub returns-in-Empty : goal.returns-in-Empty
@@ -138,8 +139,8 @@ returns-in-Empty g c =
     let M = g.S.Meaning in
     let e = c.args.self.now in
     let v = c.requires.in_service in
-    store_kept M e _ one_step _ refl
-    (empty_does (capacity_of M e) (cells_of M e) e.inner c.args.step c.requires.due (g.S.Meaning.numbered e.store) v.kept
+    store_kept M e _ one_step _ v.ok refl
+    (empty_does (capacity_of M e) (cells_of M e) e.inner c.args.step c.requires.due (g.S.Meaning.numbered e.store v.ok) v.serving.kept
     (e.inner.frame.next + c.size.result) (ap (λ n. e.inner.frame.next + n) c.size.ensures) _ _ c.bind-in-Empty.new.self c.in-Empty.is c.bind-in-Empty.ensures)
 
 pub returns-in-If : goal.returns-in-If
@@ -147,8 +148,8 @@ returns-in-If g c =
     let M = g.S.Meaning in
     let e = c.args.self.now in
     let v = c.requires.in_service in
-    store_kept M e _ one_step _ refl
-    (if_does (capacity_of M e) (cells_of M e) e.inner c.args.step c.requires.due (g.S.Meaning.numbered e.store) v.kept
+    store_kept M e _ one_step _ v.ok refl
+    (if_does (capacity_of M e) (cells_of M e) e.inner c.args.step c.requires.due (g.S.Meaning.numbered e.store v.ok) v.serving.kept
     (e.inner.frame.next + c.size.result) (ap (λ n. e.inner.frame.next + n) c.size.ensures) _ _ c.branch-self.new.self c.in-If.is c.branch-self.ensures)
 
 pub returns-in-Return : goal.returns-in-Return
@@ -156,8 +157,8 @@ returns-in-Return g c =
     let M = g.S.Meaning in
     let e = c.args.self.now in
     let v = c.requires.in_service in
-    store_kept M e _ one_step _ refl
-    (return_does (capacity_of M e) (cells_of M e) e.inner c.args.step c.requires.due (g.S.Meaning.numbered e.store) v.kept
+    store_kept M e _ one_step _ v.ok refl
+    (return_does (capacity_of M e) (cells_of M e) e.inner c.args.step c.requires.due (g.S.Meaning.numbered e.store v.ok) v.serving.kept
     _ c.hand_back.new.self c.in-Return.is c.hand_back.ensures)
 
 pub returns-else-is_full : goal.returns-else-is_full
@@ -165,8 +166,8 @@ returns-else-is_full g c =
     let M = g.S.Meaning in
     let e = c.args.self.now in
     let v = c.requires.in_service in
-    store_kept M e _ one_step _ refl
-    (call_does (capacity_of M e) (cells_of M e) e.inner c.args.step c.requires.due (g.S.Meaning.numbered e.store) v.kept
+    store_kept M e _ one_step _ v.ok refl
+    (call_does (capacity_of M e) (cells_of M e) e.inner c.args.step c.requires.due (g.S.Meaning.numbered e.store v.ok) v.serving.kept
     (e.inner.frame.next + c.size.result) (ap (λ n. e.inner.frame.next + n) c.size.ensures) _ _ _ c.call.new.self c.in-Call.is (room_left _ _ c.is_full.ensures.value c.if-is_full.false c.is_full.ensures.fits)
     (c.call.ensures ∙ ap (λ x. called e.inner x c.in-Call.slots c.in-Call.d (e.inner.frame.next + c.size.result)) c.function-callee.ensures))
 
@@ -175,9 +176,9 @@ returns-then-is_full g c =
     let M = g.S.Meaning in
     let e = c.args.self.now in
     let v = c.requires.in_service in
-    store_kept M e e one_step _ refl
-    (deep_does (capacity_of M e) (cells_of M e) e.inner c.args.step c.requires.due (g.S.Meaning.numbered e.store) v.kept
-    _ _ _ c.in-Call.is (none_left _ _ c.is_full.ensures.value c.if-is_full.true) v.fits)
+    store_kept M e e one_step _ v.ok refl
+    (deep_does (capacity_of M e) (cells_of M e) e.inner c.args.step c.requires.due (g.S.Meaning.numbered e.store v.ok) v.serving.kept
+    _ _ _ c.in-Call.is (none_left _ _ c.is_full.ensures.value c.if-is_full.true) v.serving.fits)
 
 pub returns-in-Cons : goal.returns-in-Cons
 returns-in-Cons g c =
@@ -186,9 +187,10 @@ returns-in-Cons g c =
     let v = c.requires.in_service in
     let done = c.cons.ensures in
     record {
+      ok = done.ok;
       capacity = done.capacity;
       does =
-          cons_does (capacity_of M e) (cells_of M e) e.inner c.args.step c.requires.due (g.S.Meaning.numbered e.store) v.kept
+          cons_does (capacity_of M e) (cells_of M e) e.inner c.args.step c.requires.due (g.S.Meaning.numbered e.store v.ok) v.serving.kept
           (e.inner.frame.next + c.size.result) (ap (λ n. e.inner.frame.next + n) c.size.ensures) _ _ _ _ (cells_of M c.cons.new.self) c.cons.new.self.inner c.in-Cons.is done.consed;
     }
 
@@ -199,8 +201,9 @@ returns-in-Match g c =
     let v = c.requires.in_service in
     let done = c.match_list.ensures in
     record {
+      ok = done.ok;
       capacity = done.capacity;
       does =
-          match_does (capacity_of M e) (cells_of M e) e.inner c.args.step c.requires.due (g.S.Meaning.numbered e.store) v.kept
+          match_does (capacity_of M e) (cells_of M e) e.inner c.args.step c.requires.due (g.S.Meaning.numbered e.store v.ok) v.serving.kept
           (e.inner.frame.next + c.size.result) (ap (λ n. e.inner.frame.next + n) c.size.ensures) _ _ _ _ (cells_of M c.match_list.new.self) c.match_list.new.self.inner c.in-Match.is done.cells done.inner;
     }

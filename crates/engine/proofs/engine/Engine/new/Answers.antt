@@ -6,7 +6,7 @@ use Rattle.inner.proofs.Moments.{bare_moment}
 use Rattle.standing.specs.Moments.{Stands, bare_stands, sound_bare}
 use Rattle.plain.specs.States as plain
 use Rattle.cells.specs.Cells.{Unheld}
-use Rattle.engine.proofs.works.Works.new.Goals as goal
+use Rattle.engine.proofs.engine.Engine.new.Goals as goal
 
 pub returns-clause-stands : goal.returns-clause-stands
 returns-clause-stands g c =
@@ -22,8 +22,14 @@ returns-clause-in_service g c =
     let is_bare = bare_moment i c.default.ensures.0 in
     let no_input : i.inputs.items ≡ [] = c.default.ensures.1.1.0 in
     let no_caller : i.callers.items ≡ [] = c.default.ensures.1.1.1.1.0 in
+    let s = returns-clause-stands g c in
     record {
-      kept = new_kept i no_input no_caller (subst (λ a. Loaded a i.sheet) (sym c.default.ensures.0) tt);
-      fits = subst (λ w. PriceFits w m) (sym is_bare) tt;
-      sound = ∣ returns-clause-stands g c ∣₁;
+      ok = c.clear.ensures.ok;
+      serving = record {
+        kept = new_kept i no_input no_caller (subst (λ a. Loaded a i.sheet) (sym c.default.ensures.0) tt);
+        fits = subst (λ w. PriceFits w m) (sym is_bare) tt;
+        state = s.state;
+        stands = s.stands;
+        sound = s.sound;
+      };
     }

@@ -4,7 +4,7 @@ use Rattle.std.proofs.Common.{◌≡◌}
 use Rattle.inner.specs.declared.kept.State.TheVariants.{Running}
 use Rattle.engine.specs.Service.{InService}
 use Rattle.engine.proofs.Rows.{Passed}
-use Rattle.engine.proofs.works.Works.advance.Given as goal
+use Rattle.engine.proofs.engine.Engine.advance.Given as goal
 
 abbrev pub invariant-loop-made : goal.invariant-loop-made
 invariant-loop-made g l =

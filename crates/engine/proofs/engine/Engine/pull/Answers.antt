@@ -6,10 +6,11 @@ use Rattle.inner.specs.declared.kept.Inner.{Inner}
 use Rattle.inner.specs.declared.kept.State.{State}
 use Rattle.inner.specs.declared.kept.State.TheVariants.{Done}
 use Rattle.inner.proofs.Pulling.{result_held, pulls_does, pull_ends_does}
-use Rattle.inner.proofs.States.{told_same}
+use Rattle.inner.proofs.Excluded.{pull_excluded}
+use Rattle.inner.proofs.States.{told_same, told_other}
 use Rattle.engine.specs.Service.{cells_of, capacity_of}
-use Rattle.engine.proofs.Calls.{call_made}
-use Rattle.engine.proofs.works.Works.pull.Goals as goal
+use Rattle.engine.proofs.Calls.{call_made, store_kept}
+use Rattle.engine.proofs.engine.Engine.pull.Goals as goal
 
 -- what is kept, with this list as the result
 abbrev with_result_of : Inner → ℕ → ℕ → Inner
@@ -21,11 +22,21 @@ taken_apart-node-requires g c =
     let e = c.args.self.now in
     let some = c.if-word-eq0.false in
     record {
+      ok = c.requires.in_service.ok;
       held =
           subst (λ k. is_some (cells_of M e k) ≡ true) (sym c.word-word.ensures)
-          (result_held (capacity_of M e) (cells_of M e) e.inner c.requires.in_service (told_same e.inner.state Done _ c.ne.ensures c.if-ne.false)
+          (result_held (capacity_of M e) (cells_of M e) e.inner c.requires.in_service.serving (told_same e.inner.state Done _ c.ne.ensures c.if-ne.false)
           (λ q. some (c.word-word.ensures ∙ q)));
     }
+
+pub returns-then-ne : goal.returns-then-ne
+returns-then-ne g c =
+    let M = g.S.Meaning in
+    let e = c.args.self.now in
+    let v = c.requires.in_service in
+    call_made M e e _ _ v
+    (store_kept M e e _ _ v.ok refl
+    (pull_excluded (capacity_of M e) (cells_of M e) e.inner v.serving.kept v.serving.fits (told_other e.inner.state Done _ c.ne.ensures c.if-ne.true)))
 
 pub returns-then-word-eq0 : goal.returns-then-word-eq0
 returns-then-word-eq0 g c =
@@ -34,9 +45,10 @@ returns-then-word-eq0 g c =
     let v = c.requires.in_service in
     call_made M e _ _ _ v
     (record {
+      ok = v.ok;
       capacity = refl;
       does =
-          pull_ends_does (capacity_of M e) (cells_of M e) e.inner v.kept (cells_of M e) _
+          pull_ends_does (capacity_of M e) (cells_of M e) e.inner v.serving.kept (cells_of M e) _
           (record {
             is_done = told_same e.inner.state Done _ c.ne.ensures c.if-ne.false;
             no_word = sym c.word-word.ensures ∙ c.if-word-eq0.true;
@@ -56,9 +68,10 @@ returns g c =
     let node = d.words ∙ ap (λ k. words_in (cells_of M e k)) word in
     call_made M e _ _ _ v
     (record {
+      ok = d.ok;
       capacity = gave.same_capacity;
       does =
-          pulls_does (capacity_of M e) (cells_of M e) e.inner v.kept c.taken_apart-node.result.element (M.cells c.taken_apart-node.new.store) _
+          pulls_does (capacity_of M e) (cells_of M e) e.inner v.serving.kept c.taken_apart-node.result.element (M.cells c.taken_apart-node.new.store) _
           (record {
             is_done = told_same e.inner.state Done _ c.ne.ensures c.if-ne.false;
             some_word = λ q. c.if-word-eq0.false (word ∙ q);

@@ -1,0 +1,5 @@
+// Tests of the engine, in a crate of their own since a crate with tests is proved twice.
+#![tactic(auto)]
+
+#[cfg(test)]
+mod printer;
