@@ -49,8 +49,14 @@ fn words(rt: &HostRuntime) -> Result<Vec<String>, Stop<'static>> {
     Ok(env::args(rt)?.collect(rt.alloc())?)
 }
 
+// Tells why there is no answer. Where a fault of the sheet cannot be told, the error of that is told in its place.
 fn complain(rt: &HostRuntime, stop: &Stop<'_>) -> io::Result<ExitCode> {
-    eprintln!(rt; "label: {stop}")?;
+    match (stop, eprintln!(rt; "label: {stop}")) {
+        (Stop::Misspelled { .. } | Stop::Unreadable { .. }, Err(error)) => {
+            eprintln!(rt; "label: {error}")?;
+        }
+        (_, told) => told?,
+    }
     Ok(ExitCode::FAILURE)
 }
 

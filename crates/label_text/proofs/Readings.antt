@@ -1,6 +1,5 @@
 -- One character more of hexadecimal text, and its end.
 use Rattle.std.proofs.Common.{◌≡◌, ℕ, suc, ◌+◌, ◌<◌, ◌≤◌, Bool, true, false, cond, eqb, List, [], ◌∷◌, ◌++◌, length, get_or, drop, Ok, Err, Result, sym, refl, ap, ◌∙◌, append_assoc, append-nil, add-one, arith, drop-cons}
-use Rattle.std.specs.Result.{MatchResult, IsErrAnd}
 use Rattle.label_text.specs.declared.hexes.Spot.{Spot}
 use Rattle.label_text.specs.declared.hexes.TextFault.{TextFault}
 use Rattle.label_text.specs.declared.hexes.Slip.{Slip}
@@ -57,8 +56,3 @@ pub read_as : {bs cs : List ℕ} {m n : Mode} {s t : Spot} (rest : List ℕ) (wh
     with_bytes cs (read_on n t rest) ≡ whole → with_bytes bs (read_on m s rest) ≡ whole
 read_as {bs} {cs} {m} {n} {s} {t} rest whole b e p is =
     ap (λ x. with_bytes x (read_on m s rest)) b ∙ ap (λ x. with_bytes cs (read_on x s rest)) e ∙ ap (λ x. with_bytes cs (read_on n x rest)) p ∙ is
-
--- what the turn was whose error, if it was one, got a place
-pub turn_of : (t : Result Turn Slip) (P : Slip → TextFault → Type 0) (x : Turn) → MatchResult t (λ y. ◌≡◌ {A = Result Turn TextFault} (Ok x) (Ok y)) (λ e. IsErrAnd {T = Turn} (Ok x) (P e)) → t ≡ Ok x
-turn_of (Ok y) P x is = cc
-turn_of (Err e) P x is = absurd is

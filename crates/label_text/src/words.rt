@@ -83,7 +83,7 @@ impl fmt::Display for Amounts {
 }
 
 // What is printed in words, with the number that a type or a function record gets.
-#[derive(Clone, Copy)]
+#[derive(Clone, Copy, Debug, PartialEq, Eq)]
 pub struct Numbered<T> {
     pub number: usize,
     pub what: T,

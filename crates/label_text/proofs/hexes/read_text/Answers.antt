@@ -2,7 +2,7 @@ use Rattle.std.proofs.Common.{◌≡◌, ℕ, ◌+◌, List, get_or, drop, vec_i
 use Rattle.label_text.specs.declared.hexes.Spot.{Spot}
 use Rattle.label_text.specs.Hexes.{reading, behind}
 use Rattle.label_text.specs.Parsed.{Low, LeadsLow}
-use Rattle.label_text.proofs.Readings.{goes_on, gives_byte, behind_small, read_as, turn_of}
+use Rattle.label_text.proofs.Readings.{goes_on, gives_byte, behind_small, read_as}
 use Rattle.label_text.proofs.hexes.read_text.Goals as goal
 use Rattle.label_text.proofs.hexes.read_text.Goals.{in-Goes, in-Gives+in_ok-push-in-Gives}
 
@@ -11,14 +11,13 @@ loop-c-preserved c =
     let text : List ℕ = c.args.text.now in
     let i : ℕ = c.loop-c.c-index in
     let inv = c.loop-c.invariant in
-    let turned = turn_of c.turn.result (λ e f. f ≡ record { slip = e; spot = c.loop-c.spot }) c.in_ok-turn.turn c.in_ok-turn.ensures.cases in
     let passed : c.pass.new.self ≡ behind c.loop-c.spot (get_or text i 0) = c.pass.ensures in
     let small = behind_small c.loop-c.spot (get_or text i 0) (i + 1) inv.1 inv.2 in
     let lines = ap (λ (s : Spot). s.line) passed in
     let columns = ap (λ (s : Spot). s.column) passed in
-    elim c.match-turn.branch [
+    elim c.match-turn-2.branch [
       | in-Goes w ↦
-          let goes = turned ∙ ap (λ t. Ok t) w.in-Goes.is in (
+          let goes = c.in-Ok.is ∙ ap (λ t. Ok t) w.in-Goes.is in (
             subst Low (sym w.mode-is) (subst LeadsLow goes c.turn.ensures.low),
             omega arith,
             omega arith,
@@ -26,7 +25,7 @@ loop-c-preserved c =
                 (goes_on text (vec_items c.loop-c.bytes) c.loop-c.mode c.loop-c.spot i (reading text) c.loop-c-test.true inv.3 w.in-Goes.next (sym goes ∙ c.turn.ensures.value)),
           )
       | in-Gives+in_ok-push-in-Gives w ↦
-          let gives = turned ∙ ap (λ t. Ok t) w.in-Gives.is in (
+          let gives = c.in-Ok.is ∙ ap (λ t. Ok t) w.in-Gives.is in (
             subst Low (sym w.mode-is) tt,
             omega arith,
             omega arith,
