@@ -133,7 +133,7 @@ fn read_text(heap: Global, text: &[u8]) -> Result<Vec<u8>, HexFault>
     let mut mode = Mode::Between;
     let mut spot = Spot { line: 1, column: 1 };
     for c in text {
-        // a match, since a closure in map_err makes each character a fifth to a half dearer
+        // a match, since a closure in map_err makes a character up to a third dearer
         let turn = match mode.turn(*c) {
             Ok(turn) => turn,
             Err(slip) => return Err(HexFault::Text(TextFault { slip, spot })),
